@@ -1,0 +1,98 @@
+-- What a row uses and a standard lacks: document 01, refusal 40; `validate_profile_features` restated over rows. Words are compared with case ignored.
+-- Assumes nothing.
+use Prim.Native.Nat.{ℕ, zero, suc, _+_}
+use mathlib.Core.Bool.{Bool, true, false, _&&_, _||_}
+use mathlib.Core.List.{List, [], _∷_}
+use lib.ListN.{length, getD}
+use lib.Dec.{leb, ltb, eqb}
+use Rattle.rows.specs.Notation.{if_then_else_}
+use Rattle.rows.specs.Languages.{C, Cpp, Fortran, C99, C11, C23, Cpp11, Fortran90, Fortran2003, Fortran2018}
+use Rattle.rows.specs.Kinds.{Identifier, LeftParen, RightParen, Dot, Star, LogicalAnd, Equal, NoToken}
+use Rattle.rows.specs.Words.{no-word, ignoring-case, long, «_Atomic», «_BitInt», typeof, «typeof_unqual», decltype, type, class}
+use Rattle.rows.specs.Refusals.{featureDetail}
+use Rattle.rows.specs.declared.answer.Feature.{Feature}
+use Rattle.rows.specs.declared.answer.Feature.the-variants.{LongLong, Atomic, BitInt, Typeof, TypeofUnqual, Decltype, RvalueReference, Selector, DerivedType, Class, AssumedTypeOrRank}
+
+-- Some number below n passes.
+unfoldable pub some-below : (n : ℕ) → (ℕ → Bool) → Bool
+some-below zero p = false
+some-below (suc n) p = some-below n p || p n
+
+module _ (kinds words : List ℕ) where
+  unfoldable pub kind-is : (at kind : ℕ) → Bool
+  kind-is at kind = eqb (getD kinds at NoToken) kind
+
+  -- `identifier_is`, which ignores case in every language.
+  unfoldable pub identifier-is : (at word : ℕ) → Bool
+  identifier-is at word = kind-is at Identifier && eqb (ignoring-case (getD words at no-word)) word
+
+  -- Some token of the row passes.
+  unfoldable pub some-token : (ℕ → Bool) → Bool
+  some-token p = some-below (length kinds) p
+
+  unfoldable pub has-kind : (kind : ℕ) → Bool
+  has-kind kind = some-token (λ at. kind-is at kind)
+
+  unfoldable pub has-adjacent-identifiers : (first second : ℕ) → Bool
+  has-adjacent-identifiers first second = some-token (λ at. identifier-is at first && identifier-is (at + 1) second)
+
+  unfoldable pub has-identifier-call : (name : ℕ) → Bool
+  has-identifier-call name = some-token (λ at. identifier-is at name && kind-is (at + 1) LeftParen)
+
+  unfoldable pub has-identifier-followed-by-star : (name : ℕ) → Bool
+  has-identifier-followed-by-star name = some-token (λ at. identifier-is at name && kind-is (at + 1) LeftParen && kind-is (at + 2) Star)
+
+  unfoldable pub has-assumed-rank : Bool
+  has-assumed-rank = some-token (λ at. kind-is at LeftParen && kind-is (at + 1) Dot && kind-is (at + 2) Dot && kind-is (at + 3) RightParen)
+
+  -- The row uses the feature.
+  unfoldable pub uses : Feature → Bool
+  uses LongLong = has-adjacent-identifiers long long
+  uses Atomic = has-identifier-call «_Atomic»
+  uses BitInt = has-identifier-call «_BitInt»
+  uses Typeof = has-identifier-call typeof
+  uses TypeofUnqual = has-identifier-call «typeof_unqual»
+  uses Decltype = has-identifier-call decltype
+  uses RvalueReference = has-kind LogicalAnd
+  uses Selector = has-kind Equal
+  uses DerivedType = has-identifier-call type
+  uses Class = has-identifier-call class
+  uses AssumedTypeOrRank = has-identifier-followed-by-star type || has-assumed-rank
+
+-- A feature of a language, and the standard that first has it.
+pub record Since : Type 0 where
+  pub feature : Feature
+  pub standard : ℕ
+
+infix 70 _since_
+abbrev pub _since_ : Feature → ℕ → Since
+f since s = record { feature = f; standard = s }
+
+-- The features that are tested in each language.
+unfoldable pub features : (language : ℕ) → List Since
+features language =
+    if eqb language C then LongLong since C99 ∷ Atomic since C11 ∷ BitInt since C23 ∷ Typeof since C23 ∷ TypeofUnqual since C23 ∷ []
+    else if eqb language Cpp then LongLong since Cpp11 ∷ Decltype since Cpp11 ∷ RvalueReference since Cpp11 ∷ []
+    else if eqb language Fortran then
+    Selector since Fortran90 ∷ DerivedType since Fortran90 ∷ Class since Fortran2003 ∷ AssumedTypeOrRank since Fortran2018 ∷ []
+    else []
+
+-- What is lacking.
+pub data Lack : Type 0 where
+  nothing : Lack
+  lacks : Feature → Lack
+
+-- "Of several missing features the one with the least detail is given."
+unfoldable pub least : Feature → Lack → Lack
+least f nothing = lacks f
+least f (lacks g) = if leb (featureDetail f) (featureDetail g) then lacks f else lacks g
+
+unfoldable pub lacking : (standard : ℕ) → (kinds words : List ℕ) → List Since → Lack
+lacking standard kinds words [] = nothing
+lacking standard kinds words (s ∷ ss) =
+    if uses kinds words (s .feature) && ltb standard (s .standard) then least (s .feature) (lacking standard kinds words ss)
+    else lacking standard kinds words ss
+
+-- `validate_profile_features`
+unfoldable pub missing-feature : (language standard : ℕ) → (kinds words : List ℕ) → Lack
+missing-feature language standard kinds words = lacking standard kinds words (features language)

@@ -1,0 +1,1 @@
+// The profile check: document 01, refusal 40. Its definitions are in specs/.

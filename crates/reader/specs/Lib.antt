@@ -1,0 +1,5 @@
+pub mod Nodes
+pub mod Reading
+pub mod Written
+pub mod Standing
+pub mod Examples

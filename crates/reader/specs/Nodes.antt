@@ -1,0 +1,35 @@
+-- Trees and their node records: document 01, "Node record".
+-- Assumes nothing.
+use Prim.Native.Nat.{ℕ, suc, _+_, _*_}
+use mathlib.Core.List.{List, [], _∷_, _++_}
+
+-- The kinds of node, by document 01's letters: token T, parentheses G, brackets B, list L, argument A.
+pub data NodeKind : Type 0 where
+  T-node G-node B-node L-node A-node : NodeKind
+
+unfoldable pub number : NodeKind → ℕ
+number T-node = 0
+number G-node = 1
+number B-node = 2
+number L-node = 3
+number A-node = 4
+
+-- The nodes of one level, in order. Each has its kind, its token number, the nodes one level below it, and the nodes after it.
+pub data Nodes : Type 0 where
+  none : Nodes
+  node : NodeKind → (token : ℕ) → (below next : Nodes) → Nodes
+
+-- How many nodes there are, those below counted.
+unfoldable pub count : Nodes → ℕ
+count none = 0
+count (node k i b x) = suc (count b + count x)
+
+-- "Three 32-bit numbers".
+abbrev pub node-width : ℕ
+node-width = 3
+
+-- The node records, "parents first": kind, token number, extent ("nodes in its subtree, itself included").
+unfoldable pub records : Nodes → List ℕ
+unfolding count number
+records none = []
+records (node k i b x) = number k ∷ i ∷ suc (count b) ∷ records b ++ records x

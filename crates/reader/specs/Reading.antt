@@ -1,0 +1,159 @@
+-- The reading of a row into a tree: document 01, "Node record" and "Steps". It knows no allowance: refusal 25 is a comparison of its step count.
+-- Assumes nothing.
+use Prim.Native.Nat.{ℕ, zero, suc, _+_, _*_}
+use mathlib.Core.Bool.{Bool, true, false, _&&_, _||_}
+use mathlib.Core.List.{List}
+use lib.ListN.{length, getD}
+use lib.Dec.{leb, ltb, eqb}
+use Rattle.rows.specs.Notation.{if_then_else_}
+use Rattle.rows.specs.Kinds.{Identifier, LeftParen, RightParen, LeftBracket, RightBracket, Comma, Less, Greater, ShiftRight, NoToken}
+use Rattle.rows.specs.declared.answer.TypeNameError.{TypeNameError}
+use Rattle.rows.specs.declared.answer.TypeNameError.the-variants.{NestingLimitExceeded, UnterminatedGroup, MismatchedClosingDelimiter}
+use Rattle.reader.specs.Nodes.{NodeKind, T-node, G-node, B-node, L-node, A-node, Nodes, none, node}
+
+-- ---- what is met and what comes of it
+
+-- What is being read: the whole row, the inside of `( )` or `[ ]`, one argument of a list, or what follows a list's `<` or comma.
+pub data Level : Type 0 where
+  top round square argument list : Level
+
+-- Why a level is not read: a refusal, or (inside a list alone) an empty argument or no closer, which only makes the try of that list fail.
+pub data Fault : Type 0 where
+  refusal : TypeNameError → Fault
+  no-list : Fault
+
+-- What is to be done at a token: end the level and go on at a token; stop; take a T, perhaps an identifier; read a group; try a list; begin an argument.
+pub data Next : Type 0 where
+  ends : (at : ℕ) → Next
+  stops : Fault → Next
+  token : (word : Bool) → Next
+  group : NodeKind → Level → Next
+  angle first : Next
+
+-- What came of a level: its nodes, where to go on, whether half a `>>` is left, and the steps; or a fault, and the steps up to it.
+pub data Got : Type 0 where
+  got : Nodes → (at : ℕ) → (half : Bool) → (steps : ℕ) → Got
+  bad : Fault → (steps : ℕ) → Got
+
+unfoldable pub case : Got → (Nodes → ℕ → Bool → ℕ → Got) → (Fault → ℕ → Got) → Got
+case (got x at half m) f g = f x at half m
+case (bad e m) f g = g e m
+
+-- A node and its steps before what came of reading the rest of its level.
+unfoldable pub before : NodeKind → (token : ℕ) → Nodes → (steps : ℕ) → Got → Got
+before k i b m (got x at half m′) = got (node k i b x) at half (m + m′)
+before k i b m (bad e m′) = bad e (m + m′)
+
+-- ---- what is to be done at a token of kind k
+
+-- `is_angle_close`: a list can end here, with `lists` lists open, itself counted (document 01's template depth).
+unfoldable pub closes : (lists k : ℕ) (half : Bool) → Bool
+closes lists k half = half || eqb k Greater || (eqb k ShiftRight && leb 2 lists)
+
+module _ (cpp : Bool) where
+  -- `parse_node`: a node begins; `word`: its left neighbour node is an identifier token.
+  unfoldable pub starts : (word : Bool) (k : ℕ) → Next
+  starts word k =
+      if eqb k LeftParen then group G-node round
+      else if eqb k LeftBracket then group B-node square
+      else if eqb k Less && cpp && word then angle
+      else token (eqb k Identifier)
+
+  -- `parse_group` at top, round and square, `parse_template_arguments` at argument and list. "Directly in an argument a `)` or `]` is taken as a T."
+  unfoldable pub next : Level → (lists : ℕ) (word : Bool) (k at : ℕ) (half : Bool) → Next
+  unfolding closes starts
+  next top lists word k at half =
+      if eqb k NoToken then ends at
+      else if eqb k RightParen || eqb k RightBracket then stops (refusal MismatchedClosingDelimiter)
+      else starts word k
+  next round lists word k at half =
+      if eqb k NoToken then stops (refusal UnterminatedGroup)
+      else if eqb k RightParen then ends (suc at)
+      else if eqb k RightBracket then stops (refusal MismatchedClosingDelimiter)
+      else starts word k
+  next square lists word k at half =
+      if eqb k NoToken then stops (refusal UnterminatedGroup)
+      else if eqb k RightBracket then ends (suc at)
+      else if eqb k RightParen then stops (refusal MismatchedClosingDelimiter)
+      else starts word k
+  next argument lists word k at half =
+      if closes lists k half || eqb k Comma then ends at
+      else if eqb k NoToken then stops no-list
+      else starts word k
+  next list lists word k at half =
+      if closes lists k half then stops no-list
+      else first
+
+-- ---- the reading
+
+-- The kind of a token of the row.
+unfoldable pub kindAt : List ℕ → ℕ → ℕ
+kindAt row at = getD row at NoToken
+
+-- "Groups and lists nest to 64."
+abbrev pub MAX-NESTING-DEPTH : ℕ
+MAX-NESTING-DEPTH = 64
+
+module _ (cpp : Bool) (row : List ℕ) where
+  abbrev kind : ℕ → ℕ
+  kind at = kindAt row at
+
+  -- A reading of a level: `lists` lists and `nesting` groups and lists are open, `word` as above, from token `at` on, `half`: half a `>>` is left.
+  abbrev pub Reader : Type 0
+  Reader = Level → (lists nesting : ℕ) (word : Bool) (at : ℕ) (half : Bool) → Got
+
+  -- One turn of the reading, given the reading of what comes after: `read`.
+  module _ (read : Reader) where
+    -- One level down, if that is not too deep.
+    unfoldable pub down : Bool → Level → (lists nesting at : ℕ) (half : Bool) → Got
+    down true l lists nesting at half = read l lists nesting false at half
+    down false l lists nesting at half = bad (refusal NestingLimitExceeded) 0
+
+    module _ (l : Level) (lists nesting : ℕ) where
+      -- An argument's nodes have been read, `begin` its first token: it is empty; a comma follows, and then the next argument; or the list is
+      -- closed: by the half of a `>>`, by `>`, or by a `>>`, of which half is left.
+      unfoldable pub argued : (begin : ℕ) → Nodes → (comma : Bool) (at : ℕ) (half : Bool) (steps : ℕ) → Got
+      unfolding before
+      argued begin none comma at half m = bad no-list m
+      argued begin (node k i b y) true at half m = before A-node begin (node k i b y) m (read list lists nesting false (suc at) half)
+      argued begin (node k i b y) false at true m = got (node A-node begin (node k i b y) none) at false m
+      argued begin (node k i b y) false at false m = got (node A-node begin (node k i b y) none) (suc at) (eqb (kind at) ShiftRight) m
+
+      -- Each node is one step, an entry to `parse_node`. "If the try fails, everything but the step count is set back, the half-used `>>`
+      -- included, and `<` becomes a T."
+      unfoldable pub go : Next → (at : ℕ) (half : Bool) → Got
+      unfolding case down before argued
+      go (ends at′) at half = got none at′ half 0
+      go (stops e) at half = bad e 0
+      go (token word) at half = before T-node at none 1 (read l lists nesting word (suc at) half)
+      go (group k v) at half =
+          case (down (ltb nesting MAX-NESTING-DEPTH) v lists (suc nesting) (suc at) half)
+          (λ b at′ half′ m. before k at b (suc m) (read l lists nesting false at′ half′))
+          (λ e m. bad e (suc m))
+      go angle at half =
+          case (down (ltb nesting MAX-NESTING-DEPTH) list (suc lists) (suc nesting) (suc at) half)
+          (λ b at′ half′ m. before L-node at b (suc m) (read l lists nesting false at′ half′))
+          (λ e m. before T-node at none (suc m) (read l lists nesting false (suc at) half))
+      go first at half =
+          case (read argument lists nesting false at half)
+          (λ x at′ half′ m. argued at x (eqb (kind at′) Comma) at′ half′ m)
+          (λ e m. bad e m)
+
+    unfoldable pub turn : Reader
+    unfolding go next
+    turn l lists nesting word at half = go l lists nesting (next cpp l lists word (kind at) at half) at half
+
+  -- The reading turns again and again. `fuel` bounds how deep the turns stand in one another: twice the tokens and two are enough for every row.
+  unfoldable pub readF : ℕ → Reader
+  unfolding turn
+  readF zero l lists nesting word at half = bad no-list 0
+  readF (suc fuel) l lists nesting word at half = turn (λ l lists nesting word at half. readF fuel l lists nesting word at half) l lists nesting word at half
+
+  unfoldable pub read : Reader
+  unfolding readF
+  read l lists nesting word at half = readF (2 * length row + 2) l lists nesting word at half
+
+  -- `TypeSyntaxParser::parse`, but for its last test (refusal 23, in the answer's definition).
+  unfoldable pub reading : Got
+  unfolding read
+  reading = read top 0 0 false 0 false

@@ -1,0 +1,49 @@
+-- How deep a tree nests, and where its nodes stand: document 01, "Node record", its last sentences, and demand 3.
+-- Assumes nothing.
+use Prim.Native.Nat.{ℕ, suc, _+_, _*_, _<_, max}
+use mathlib.Core.Bool.{Bool, true, false}
+use mathlib.Core.List.{List, [], _∷_, _++_}
+use lib.ListN.{getD}
+use lib.Dec.{eqb}
+use Rattle.rows.specs.Notation.{if_then_else_}
+use Rattle.reader.specs.Nodes.{NodeKind, T-node, G-node, B-node, L-node, A-node, Nodes, none, node, number, node-width}
+
+-- "Level and nesting count G, B and L, not A."
+unfoldable pub deeper : NodeKind → ℕ → ℕ
+deeper T-node d = d
+deeper G-node d = suc d
+deeper B-node d = suc d
+deeper L-node d = suc d
+deeper A-node d = d
+
+-- "A tree nests as deep as the most G, B and L on one path from the top level down, the last one included."
+unfoldable pub depth : Nodes → ℕ
+unfolding deeper
+depth none = 0
+depth (node k i b x) = max (deeper k (depth b)) (depth x)
+
+-- The tokens of a tree's nodes of one kind, parents first.
+unfoldable pub tokens-of : NodeKind → Nodes → List ℕ
+unfolding number
+tokens-of k none = []
+tokens-of k (node k′ i b x) = if eqb (number k) (number k′) then i ∷ tokens-of k b ++ tokens-of k x else tokens-of k b ++ tokens-of k x
+
+-- The numbers of a row's tokens of one kind, counted from `at`.
+unfoldable pub numbers-of : (kind at : ℕ) → (kinds : List ℕ) → List ℕ
+numbers-of k at [] = []
+numbers-of k at (k′ ∷ ks) = if eqb k k′ then at ∷ numbers-of k (suc at) ks else numbers-of k (suc at) ks
+
+-- ---- of node number n in a list of node records
+
+unfoldable pub kind-of : (records : List ℕ) (n : ℕ) → ℕ
+kind-of records n = getD records (node-width * n) 0
+
+unfoldable pub token-of : (records : List ℕ) (n : ℕ) → ℕ
+token-of records n = getD records (node-width * n + 1) 0
+
+unfoldable pub extent-of : (records : List ℕ) (n : ℕ) → ℕ
+extent-of records n = getD records (node-width * n + 2) 0
+
+-- Node m stands **below** node n: "Below a node stands its subtree without the node itself."
+abbrev pub Below : (records : List ℕ) (n m : ℕ) → Type 0
+Below records n m = (n < m) × (m < n + extent-of records n)

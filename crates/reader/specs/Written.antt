@@ -1,0 +1,48 @@
+-- A tree **written out**: document 01, "Node record": "A tree is written out with every G, B and L between its brackets or angles, ..".
+-- Assumes nothing.
+use Prim.Native.Nat.{ℕ, suc, _+_}
+use mathlib.Core.List.{List, [], _∷_, _++_}
+use lib.ListN.{getD}
+use lib.Dec.{eqb}
+use Rattle.rows.specs.Notation.{if_then_else_}
+use Rattle.rows.specs.Kinds.{LeftParen, RightParen, LeftBracket, RightBracket, Comma, Less, Greater, ShiftRight, NoToken}
+use Rattle.reader.specs.Nodes.{NodeKind, T-node, G-node, B-node, L-node, A-node, Nodes, none, node}
+
+-- "What is written, and the row it is compared with, are lists of kinds, with the word at kind 0; spans are left aside."
+pub record Token : Type 0 where
+  pub kind : ℕ
+  pub word : List ℕ
+
+-- The token of a kind that has no word.
+abbrev pub sign : ℕ → Token
+sign k = record { kind = k; word = [] }
+
+-- A comma, "between two arguments": where nodes follow.
+unfoldable pub comma-before : Nodes → List Token → List Token
+comma-before none after = after
+comma-before (node k i b x) after = sign Comma ∷ after
+
+-- The tokens that a tree of this row writes.
+unfoldable pub written : (row : List Token) → Nodes → List Token
+unfolding comma-before
+written row none = []
+written row (node T-node i b x) = getD row i (sign NoToken) ∷ written row x
+written row (node G-node i b x) = sign LeftParen ∷ written row b ++ sign RightParen ∷ written row x
+written row (node B-node i b x) = sign LeftBracket ∷ written row b ++ sign RightBracket ∷ written row x
+written row (node L-node i b x) = sign Less ∷ written row b ++ sign Greater ∷ written row x
+written row (node A-node i b x) = written row b ++ comma-before x (written row x)
+
+-- Demand 3: "each `>>` in both taken as two `>`".
+unfoldable pub halved : List Token → List Token
+halved [] = []
+halved (t ∷ ts) = if eqb (t .kind) ShiftRight then sign Greater ∷ sign Greater ∷ halved ts else t ∷ halved ts
+
+-- How often `>` stands in a list of tokens.
+unfoldable pub angles : List Token → ℕ
+angles [] = 0
+angles (t ∷ ts) = if eqb (t .kind) Greater then suc (angles ts) else angles ts
+
+-- The list "once every `>` is left out".
+unfoldable pub without-angles : List Token → List Token
+without-angles [] = []
+without-angles (t ∷ ts) = if eqb (t .kind) Greater then without-angles ts else t ∷ without-angles ts

@@ -1,0 +1,1 @@
+// The reader: document 01, "Node record". Its definitions are in specs/.

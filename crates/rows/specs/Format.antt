@@ -1,0 +1,107 @@
+-- The numbers of the record file: document 01, "Head record", "Token record" and "Answer record".
+-- Assumes nothing.
+use Prim.Native.Nat.{ℕ, _+_, _*_}
+use mathlib.Core.Bool.{_&&_}
+use mathlib.Core.List.{List, [], _∷_}
+use lib.Dec.{eqb, leb, ltb}
+use Rattle.rows.specs.Notation.{if_then_else_}
+use Rattle.rows.specs.Languages.{C, Cpp, Fortran, C18, C23, Cpp17, Cpp23, Fortran2018, Fortran2023}
+
+-- A number outside the order of standards, and the standard that it means in each language.
+pub record Stand-in : Type 0 where
+  pub number : ℕ
+  pub c : ℕ
+  pub cpp : ℕ
+  pub fortran : ℕ
+
+-- What may differ from one format of the file to another.
+pub record Format : Type 0 where
+  pub head-kind : ℕ
+  pub span-bytes : ℕ
+  pub file-limit : ℕ
+  pub greatest-flag : ℕ
+  pub stand-ins : List Stand-in
+
+-- "255 means C18, Cpp17 or Fortran2018."
+abbrev pub standard-255 : Stand-in
+standard-255 = record { number = 255; c = C18; cpp = Cpp17; fortran = Fortran2018 }
+
+-- Document 01's format.
+abbrev pub format : Format
+format = record { head-kind = 256; span-bytes = 4; file-limit = 65536; greatest-flag = 1; stand-ins = standard-255 ∷ [] }
+
+-- ---- the head record: "length (2 bytes, ..), kind (2 bytes, ..), language (1 byte ..), standard (1 byte, ..), structure flag (1 byte, ..), allowance (4 bytes)"
+
+abbrev pub head-length : ℕ
+head-length = 11
+
+abbrev pub at-length : ℕ
+at-length = 0
+
+abbrev pub at-kind : ℕ
+at-kind = 2
+
+abbrev pub at-language : ℕ
+at-language = 4
+
+abbrev pub at-standard : ℕ
+at-standard = 5
+
+abbrev pub at-flag : ℕ
+at-flag = 6
+
+abbrev pub at-allowance : ℕ
+at-allowance = 7
+
+-- ---- the token record: "Length (2 bytes), kind (2 bytes ..), span start and end (4 bytes each ..)", then the word of kind 0
+
+abbrev pub at-span : ℕ
+at-span = 4
+
+-- The length without a word: 12 in document 01's format.
+abbrev pub token-length : Format → ℕ
+token-length f = at-span + 2 * f .span-bytes
+
+-- "A word of 1 to 255 bytes, each 33 to 126".
+abbrev pub longest-word : ℕ
+longest-word = 255
+
+abbrev pub least-word-byte : ℕ
+least-word-byte = 33
+
+abbrev pub greatest-word-byte : ℕ
+greatest-word-byte = 126
+
+-- Refusal 5: "a 1,025th record begins".
+abbrev pub most-tokens : ℕ
+most-tokens = 1024
+
+-- ---- standards
+
+-- What a standard's number means.
+pub data Meaning : Type 0 where
+  unknown : Meaning
+  means : (standard : ℕ) → Meaning
+
+-- How many standards a language declares: "in the order in which `CStandard`, `CppStandard` and `FortranStandard` declare them, from 0".
+unfoldable pub declared : (language : ℕ) → ℕ
+declared language =
+    if eqb language C then C23 + 1
+    else if eqb language Cpp then Cpp23 + 1
+    else if eqb language Fortran then Fortran2023 + 1
+    else 0
+
+unfoldable pub stands-for : (language : ℕ) → Stand-in → Meaning
+stands-for language s =
+    if eqb language C then means (s .c)
+    else if eqb language Cpp then means (s .cpp)
+    else if eqb language Fortran then means (s .fortran)
+    else unknown
+
+unfoldable pub among : (language standard : ℕ) → List Stand-in → Meaning
+among language standard [] = unknown
+among language standard (s ∷ ss) = if eqb standard (s .number) then stands-for language s else among language standard ss
+
+-- "A number outside that order counts as the standard it means."
+unfoldable pub meant : Format → (language standard : ℕ) → Meaning
+meant f language standard = if ltb standard (declared language) then means standard else among language standard (f .stand-ins)

@@ -1,0 +1,134 @@
+-- The records of a file: document 01, "Head record" and "Token record". A file is the list of its bytes.
+-- Assumes nothing.
+use Prim.Native.Nat.{ℕ, zero, suc, _+_, _*_, _-_}
+use mathlib.Core.Bool.{Bool, true, false, not, _&&_, _||_}
+use mathlib.Core.List.{List, [], _∷_, map}
+use lib.ListN.{length, getD, take, drop}
+use lib.Dec.{leb, ltb, eqb}
+use Rattle.rows.specs.Notation.{if_then_else_}
+use Rattle.rows.specs.Kinds.{Identifier, End}
+use Rattle.rows.specs.Words.{word-number}
+use Rattle.rows.specs.Format.{Format, head-length, at-length, at-kind, at-language, at-standard, at-flag, at-allowance, at-span, token-length, longest-word, least-word-byte, greatest-word-byte, most-tokens, Meaning, unknown, means, meant}
+use Rattle.rows.specs.declared.answer.TypeNameError.{TypeNameError}
+use Rattle.rows.specs.declared.answer.TypeNameError.the-variants.{FileTooLong, InvalidHead, UnknownProfile, InvalidRecord, TooManyRecords}
+use Rattle.rows.specs.declared.head.Head.{Head}
+use Rattle.rows.specs.declared.head.FileHead.{FileHead}
+use Rattle.rows.specs.declared.head.FileHead.the-variants.{Formed, Refused}
+
+-- "All record numbers are little-endian."
+unfoldable pub little-endian : (width : ℕ) → (file : List ℕ) → (at : ℕ) → ℕ
+little-endian zero file at = 0
+little-endian (suc width) file at = getD file at 0 + 256 * little-endian width file (suc at)
+
+-- A token record: its byte offset in the file, the token's kind, and the word's bytes, none but at kind 0.
+pub record TokenRecord : Type 0 where
+  pub place : ℕ
+  pub kind : ℕ
+  pub word : List ℕ
+
+-- What stands at a byte offset: a token record and the offset behind it, or a malformed record.
+pub data Found : Type 0 where
+  malformed : Found
+  formed : TokenRecord → (next : ℕ) → Found
+
+-- Document 01's **row**, "the list of tokens of one type name, numbered from 0", as its records; or why there is none.
+pub data Row : Type 0 where
+  refused : TypeNameError → Row
+  row : List TokenRecord → Row
+
+-- "Each 33 to 126".
+unfoldable pub in-range : List ℕ → Bool
+in-range [] = true
+in-range (b ∷ bs) = leb least-word-byte b && leb b greatest-word-byte && in-range bs
+
+unfoldable pub before-row : TokenRecord → Row → Row
+before-row t (refused e) = refused e
+before-row t (row ts) = row (t ∷ ts)
+
+module _ (f : Format) (file : List ℕ) where
+  -- ---- the head record: refusals 1 to 3
+
+  -- The head is there, with its length, its kind and a flag that the format has.
+  unfoldable pub head-formed : Bool
+  head-formed =
+      leb head-length (length file)
+      && eqb (little-endian 2 file at-length) head-length
+      && eqb (little-endian 2 file at-kind) (f .head-kind)
+      && leb (getD file at-flag 0) (f .greatest-flag)
+
+  unfoldable pub head-with : Meaning → FileHead
+  head-with unknown = Refused UnknownProfile
+  head-with (means standard) =
+      Formed (record { language = getD file at-language 0; standard = standard; flag = getD file at-flag 0; allowance = little-endian 4 file at-allowance })
+
+  unfoldable pub head : FileHead
+  head =
+      if ltb (f .file-limit) (length file) then Refused FileTooLong
+      else if not head-formed then Refused InvalidHead
+      else head-with (meant f (getD file at-language 0) (getD file at-standard 0))
+
+  -- ---- token records: refusals 4 and 5
+
+  -- The fields of the record at a byte offset.
+  unfoldable pub length-at : (at : ℕ) → ℕ
+  length-at at = little-endian 2 file (at + at-length)
+
+  unfoldable pub kind-at : (at : ℕ) → ℕ
+  kind-at at = little-endian 2 file (at + at-kind)
+
+  unfoldable pub span-start-at : (at : ℕ) → ℕ
+  span-start-at at = little-endian (f .span-bytes) file (at + at-span)
+
+  unfoldable pub span-end-at : (at : ℕ) → ℕ
+  span-end-at at = little-endian (f .span-bytes) file (at + at-span + f .span-bytes)
+
+  -- "The word is handed on as that part of the caller's file."
+  unfoldable pub word-at : (at : ℕ) → List ℕ
+  word-at at = take (length-at at - token-length f) (drop (at + token-length f) file)
+
+  -- "Kind 0 adds a word of 1 to 255 bytes, each 33 to 126; every other kind has length 12."
+  unfoldable pub length-fits : (at : ℕ) → Bool
+  length-fits at =
+      if eqb (kind-at at) Identifier then
+      ltb (token-length f) (length-at at)
+      && leb (length-at at) (token-length f + longest-word)
+      && leb (at + length-at at) (length file)
+      && in-range (word-at at)
+      else eqb (length-at at) (token-length f)
+
+  -- Refusal 4: "cut off, wrong length, kind over 57, span or word out of range".
+  unfoldable pub well-formed : (at : ℕ) → Bool
+  well-formed at =
+      leb (at + token-length f) (length file)
+      && leb (kind-at at) End
+      && leb (span-start-at at) (span-end-at at)
+      && length-fits at
+
+  unfoldable pub found : (at : ℕ) → Found
+  found at =
+      if well-formed at then formed (record { place = at; kind = kind-at at; word = word-at at }) (at + length-at at)
+      else malformed
+
+  unfoldable pub follow : (at : ℕ) → Found → (ℕ → Row) → Row
+  follow at malformed rest = refused (InvalidRecord at)
+  follow at (formed t next) rest = before-row t (rest next)
+
+  -- The records from a byte offset to the file's end, at most so many of them: "5 a 1,025th record begins; 4 record malformed (detail: its byte offset)".
+  unfoldable pub records-from : (most at : ℕ) → Row
+  records-from zero at = if leb (length file) at then row [] else refused TooManyRecords
+  records-from (suc most) at =
+      elim (leb (length file) at) as (λ _. Row) [
+        | true ↦ row []
+        | false ↦ follow at (found at) (λ next. records-from most next)
+      ]
+
+-- ---- what the layers above are given of a row
+
+unfoldable pub kinds-of : List TokenRecord → List ℕ
+kinds-of ts = map (λ (t : TokenRecord). t .kind) ts
+
+unfoldable pub words-of : List TokenRecord → List ℕ
+words-of ts = map (λ (t : TokenRecord). word-number (t .word)) ts
+
+unfoldable pub places-of : List TokenRecord → List ℕ
+places-of ts = map (λ (t : TokenRecord). t .place) ts

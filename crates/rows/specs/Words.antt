@@ -1,0 +1,252 @@
+-- The words that the reader knows, and the number that stands for a word in the layers above: every word that type_name.rs compares with.
+-- A word is known exactly (byte for byte) or with case ignored, as the original's `==` and `eq_ignore_ascii_case` have it.
+-- Assumes nothing.
+use Prim.Native.Nat.{ℕ, _+_, _-_}
+use Prim.Native.Char.{code}
+use Prim.Native.String.{String}
+use Prim.Native.String
+use mathlib.Core.Bool.{Bool, true, false, _&&_}
+use mathlib.Core.List.{List, [], _∷_}
+use lib.Dec.{leb, ltb, eqb}
+use Rattle.rows.specs.Notation.{if_then_else_}
+
+-- ---- the known words by number
+
+-- Stands for a word that is not known.
+abbrev pub no-word : ℕ
+no-word = 0
+
+abbrev pub void : ℕ
+void = 1
+
+abbrev pub bool : ℕ
+bool = 2
+
+abbrev pub «_Bool» : ℕ
+«_Bool» = 3
+
+abbrev pub char : ℕ
+char = 4
+
+abbrev pub «wchar_t» : ℕ
+«wchar_t» = 5
+
+abbrev pub «char8_t» : ℕ
+«char8_t» = 6
+
+abbrev pub «char16_t» : ℕ
+«char16_t» = 7
+
+abbrev pub «char32_t» : ℕ
+«char32_t» = 8
+
+abbrev pub int : ℕ
+int = 9
+
+abbrev pub float : ℕ
+float = 10
+
+abbrev pub double : ℕ
+double = 11
+
+abbrev pub «_Decimal32» : ℕ
+«_Decimal32» = 12
+
+abbrev pub «_Decimal64» : ℕ
+«_Decimal64» = 13
+
+abbrev pub «_Decimal128» : ℕ
+«_Decimal128» = 14
+
+abbrev pub short : ℕ
+short = 15
+
+abbrev pub long : ℕ
+long = 16
+
+abbrev pub signed : ℕ
+signed = 17
+
+abbrev pub unsigned : ℕ
+unsigned = 18
+
+abbrev pub «_Complex» : ℕ
+«_Complex» = 19
+
+abbrev pub «_Imaginary» : ℕ
+«_Imaginary» = 20
+
+abbrev pub const : ℕ
+const = 21
+
+abbrev pub volatile : ℕ
+volatile = 22
+
+abbrev pub restrict : ℕ
+restrict = 23
+
+abbrev pub noexcept : ℕ
+noexcept = 24
+
+abbrev pub «transaction_safe» : ℕ
+«transaction_safe» = 25
+
+abbrev pub «__restrict» : ℕ
+«__restrict» = 26
+
+abbrev pub «__restrict__» : ℕ
+«__restrict__» = 27
+
+abbrev pub «_Atomic» : ℕ
+«_Atomic» = 28
+
+abbrev pub decltype : ℕ
+decltype = 29
+
+abbrev pub typeof : ℕ
+typeof = 30
+
+abbrev pub «typeof_unqual» : ℕ
+«typeof_unqual» = 31
+
+abbrev pub «__typeof» : ℕ
+«__typeof» = 32
+
+abbrev pub «__typeof__» : ℕ
+«__typeof__» = 33
+
+abbrev pub «_BitInt» : ℕ
+«_BitInt» = 34
+
+abbrev pub struct : ℕ
+struct = 35
+
+abbrev pub union : ℕ
+union = 36
+
+abbrev pub enum : ℕ
+enum = 37
+
+abbrev pub typename : ℕ
+typename = 38
+
+abbrev pub class : ℕ
+class = 39
+
+abbrev pub type : ℕ
+type = 40
+
+abbrev pub precision : ℕ
+precision = 41
+
+abbrev pub complex : ℕ
+complex = 42
+
+pub record Known : Type 0 where
+  pub number : ℕ
+  pub text : String
+
+abbrev pub _spelled_ : ℕ → String → Known
+n spelled t = record { number = n; text = t }
+
+infix 70 _spelled_
+-- The table of known words.
+unfoldable pub known : List Known
+known =
+    void spelled "void" ∷
+    bool spelled "bool" ∷
+    «_Bool» spelled "_Bool" ∷
+    char spelled "char" ∷
+    «wchar_t» spelled "wchar_t" ∷
+    «char8_t» spelled "char8_t" ∷
+    «char16_t» spelled "char16_t" ∷
+    «char32_t» spelled "char32_t" ∷
+    int spelled "int" ∷
+    float spelled "float" ∷
+    double spelled "double" ∷
+    «_Decimal32» spelled "_Decimal32" ∷
+    «_Decimal64» spelled "_Decimal64" ∷
+    «_Decimal128» spelled "_Decimal128" ∷
+    short spelled "short" ∷
+    long spelled "long" ∷
+    signed spelled "signed" ∷
+    unsigned spelled "unsigned" ∷
+    «_Complex» spelled "_Complex" ∷
+    «_Imaginary» spelled "_Imaginary" ∷
+    const spelled "const" ∷
+    volatile spelled "volatile" ∷
+    restrict spelled "restrict" ∷
+    noexcept spelled "noexcept" ∷
+    «transaction_safe» spelled "transaction_safe" ∷
+    «__restrict» spelled "__restrict" ∷
+    «__restrict__» spelled "__restrict__" ∷
+    «_Atomic» spelled "_Atomic" ∷
+    decltype spelled "decltype" ∷
+    typeof spelled "typeof" ∷
+    «typeof_unqual» spelled "typeof_unqual" ∷
+    «__typeof» spelled "__typeof" ∷
+    «__typeof__» spelled "__typeof__" ∷
+    «_BitInt» spelled "_BitInt" ∷
+    struct spelled "struct" ∷
+    union spelled "union" ∷
+    enum spelled "enum" ∷
+    typename spelled "typename" ∷
+    class spelled "class" ∷
+    type spelled "type" ∷
+    precision spelled "precision" ∷
+    complex spelled "complex" ∷
+    []
+
+-- ---- a word's number
+
+-- The bytes of an ASCII text.
+unfoldable pub bytes : String → List ℕ
+bytes String.[] = []
+bytes (String._∷_ c s) = code c ∷ bytes s
+
+-- A byte in lower case.
+unfoldable pub lower : ℕ → ℕ
+lower b = if leb 65 b && leb b 90 then b + 32 else b
+
+-- Two words are the same, byte by byte, each byte seen through `fold`.
+unfoldable pub same-through : (fold : ℕ → ℕ) → List ℕ → List ℕ → Bool
+same-through fold [] [] = true
+same-through fold [] (c ∷ v) = false
+same-through fold (b ∷ w) [] = false
+same-through fold (b ∷ w) (c ∷ v) = eqb (fold b) (fold c) && same-through fold w v
+
+unfoldable pub same-exactly : List ℕ → List ℕ → Bool
+unfolding same-through
+same-exactly w v = same-through (λ b. b) w v
+
+unfoldable pub same-ignoring-case : List ℕ → List ℕ → Bool
+unfolding same-through lower
+same-ignoring-case w v = same-through lower w v
+
+-- The first entry of a table that is the word w.
+unfoldable pub find : (same : List ℕ → List ℕ → Bool) → (w : List ℕ) → List Known → ℕ
+unfolding bytes
+find same w [] = no-word
+find same w (k ∷ ks) =
+    let later = find same w ks in
+    if same w (bytes (k .text)) then k .number else later
+
+-- Added to the number of a word that is known with case ignored only.
+abbrev pub other-case : ℕ
+other-case = 128
+
+-- The number of a word: n for known word n, n + 128 for known word n in other case, 0 for every other word.
+unfoldable pub word-number : List ℕ → ℕ
+unfolding find same-exactly same-ignoring-case known
+word-number w =
+    let n = find same-exactly w known in
+    let m = find same-ignoring-case w known in
+    if eqb m no-word then no-word else if eqb n no-word then m + other-case else n
+
+-- Which known word it is exactly, by its number.
+unfoldable pub exactly : ℕ → ℕ
+exactly n = if ltb n other-case then n else no-word
+
+-- Which known word it is with case ignored, by its number.
+unfoldable pub ignoring-case : ℕ → ℕ
+ignoring-case n = if ltb n other-case then n else n - other-case

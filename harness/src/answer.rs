@@ -1,0 +1,108 @@
+//! Answers, and the refusals of document 01 by name.
+
+use std::fmt;
+
+/// The token of a refusal that names none.
+pub const NO_TOKEN: u32 = 65_535;
+
+#[derive(Debug, Clone, Copy, PartialEq, Eq)]
+pub enum Answer {
+    Accepted {
+        nodes: u32,
+        steps: u32,
+    },
+    Refused {
+        number: u32,
+        token: u32,
+        detail: u32,
+        steps: u32,
+    },
+}
+
+/// A refusal without its steps.
+#[derive(Debug, Clone, Copy, PartialEq, Eq)]
+pub struct Refusal {
+    pub number: u32,
+    pub token: u32,
+    pub detail: u32,
+}
+
+impl Refusal {
+    pub const FILE_TOO_LONG: u32 = 1;
+    pub const HEAD: u32 = 2;
+    pub const PROFILE_UNKNOWN: u32 = 3;
+    pub const RECORD_MALFORMED: u32 = 4;
+    pub const ROW_TOO_LONG: u32 = 5;
+    pub const BUFFER: u32 = 6;
+    pub const EMPTY: u32 = 10;
+    pub const CLOSING_BRACKET: u32 = 11;
+    pub const ANGLE: u32 = 12;
+    pub const COMMA: u32 = 13;
+    pub const END: u32 = 14;
+    pub const OPEN_BRACKET: u32 = 15;
+    pub const OPEN_ANGLE: u32 = 16;
+    pub const NO_IDENTIFIER: u32 = 17;
+    pub const BOUNDARY: u32 = 18;
+    pub const NESTING: u32 = 20;
+    pub const GROUP_NOT_CLOSED: u32 = 21;
+    pub const WRONG_CLOSER: u32 = 22;
+    pub const LEFT_OVER: u32 = 23;
+    pub const ALLOWANCE: u32 = 25;
+    pub const NO_TYPE_NAME: u32 = 30;
+    pub const FEATURE: u32 = 40;
+
+    pub fn plain(number: u32) -> Self {
+        Self::at(number, NO_TOKEN)
+    }
+
+    pub fn at(number: u32, token: u32) -> Self {
+        Self {
+            number,
+            token,
+            detail: 0,
+        }
+    }
+
+    pub fn detailed(self, detail: u32) -> Self {
+        Self { detail, ..self }
+    }
+
+    pub fn after(self, steps: u32) -> Answer {
+        Answer::Refused {
+            number: self.number,
+            token: self.token,
+            detail: self.detail,
+            steps,
+        }
+    }
+}
+
+impl Answer {
+    pub fn steps(self) -> u32 {
+        let (Self::Accepted { steps, .. } | Self::Refused { steps, .. }) = self;
+        steps
+    }
+
+    /// The refusal's number, `None` if accepted.
+    pub fn refusal(self) -> Option<u32> {
+        match self {
+            Self::Accepted { .. } => None,
+            Self::Refused { number, .. } => Some(number),
+        }
+    }
+}
+
+/// The first line of a listing.
+impl fmt::Display for Answer {
+    fn fmt(&self, to: &mut fmt::Formatter<'_>) -> fmt::Result {
+        match self {
+            Self::Accepted { nodes, steps } => write!(to, "ok {nodes} {steps}"),
+            Self::Refused {
+                number,
+                token,
+                detail,
+                steps,
+            } => write!(to, "no {number} {token} {detail} {steps}"),
+        }
+    }
+}

@@ -1,0 +1,26 @@
+//! The original reader behind the interface of document 01, and a generator
+//! of files to compare it with.
+//!
+//! `oracle::answer` is what document 01's entry has to answer, found by
+//! running the original. Everything else serves it: `format` takes files
+//! apart, `copies` runs the original, `tree` makes node records of its trees,
+//! `listing` prints answers, `generate` makes cases, `worked_rows` holds the
+//! rows that document 01 works out.
+
+pub mod answer;
+pub mod copies;
+pub mod format;
+pub mod generate;
+pub mod kind;
+pub mod lexed;
+pub mod listing;
+pub mod oracle;
+pub mod profile;
+pub mod tree;
+pub mod worked_rows;
+
+mod steps;
+mod stub;
+
+// Declares `source`, `version` and `host` from the folder ROUP_SRC names.
+include!(concat!(env!("OUT_DIR"), "/original.rs"));

@@ -1,0 +1,140 @@
+//! Files, records and their refusals, as document 01 has them.
+
+use harness::answer::{NO_TOKEN, Refusal};
+use harness::format::{Head, Row, Token};
+use harness::kind::Kind;
+
+const C89: Head = Head {
+    language: 0,
+    standard: 0,
+    flag: 1,
+    allowance: 0x0403_0201,
+};
+
+const STAR: u8 = Kind::Star as u8;
+const WORD: u8 = Kind::Identifier as u8;
+const UNKNOWN: u8 = Kind::End as u8 + 1;
+
+fn head_bytes() -> Vec<u8> {
+    vec![11, 0, 0, 1, 0, 0, 1, 1, 2, 3, 4]
+}
+
+fn file(tokens: &[Token]) -> Vec<u8> {
+    let tokens = tokens.to_vec();
+    Row { head: C89, tokens }.write()
+}
+
+fn refusal(file: &[u8]) -> (u32, u32) {
+    let refusal = Row::read(file).unwrap_err();
+    assert_eq!(refusal.token, NO_TOKEN);
+    (refusal.number, refusal.detail)
+}
+
+/// The head with one byte changed.
+fn changed(place: usize, byte: u8) -> Vec<u8> {
+    let mut file = head_bytes();
+    file[place] = byte;
+    file
+}
+
+#[test]
+fn records_are_laid_out_as_written() {
+    assert_eq!(file(&[]), head_bytes());
+    let mut word = Token::word("int");
+    (word.start, word.end) = (0x0102, 0x0403_0201);
+    let mut bytes = head_bytes();
+    bytes.extend([15, 0, WORD, 0, 2, 1, 0, 0, 1, 2, 3, 4, b'i', b'n', b't']);
+    bytes.extend([12, 0, 57, 0, 0, 0, 0, 0, 0, 0, 0, 0]);
+    let tokens = vec![word, Token::plain(Kind::End)];
+    assert_eq!(file(&tokens), bytes);
+    assert_eq!(Row::read(&bytes), Ok(Row { head: C89, tokens }));
+}
+
+#[test]
+fn heads_are_refused() {
+    for length in 0..head_bytes().len() {
+        assert_eq!(refusal(&head_bytes()[..length]), (Refusal::HEAD, 0));
+    }
+    for (place, byte) in [(0, 10), (0, 12), (1, 1), (2, 1), (3, 0), (6, 2), (6, 255)] {
+        assert_eq!(refusal(&changed(place, byte)), (Refusal::HEAD, 0));
+    }
+    let mut flag_and_language = changed(4, 3);
+    flag_and_language[6] = 2;
+    assert_eq!(refusal(&flag_and_language), (Refusal::HEAD, 0));
+    assert_eq!(refusal(&changed(4, 3)), (Refusal::PROFILE_UNKNOWN, 0));
+}
+
+#[test]
+fn each_language_knows_its_standards() {
+    for (language, count) in [(0, 5), (1, 6), (2, 7)] {
+        for standard in 0..=255 {
+            let mut file = changed(4, language);
+            file[5] = standard;
+            if standard < count || standard == 255 {
+                assert!(Row::read(&file).is_ok());
+            } else {
+                assert_eq!(refusal(&file), (Refusal::PROFILE_UNKNOWN, 0));
+            }
+        }
+    }
+}
+
+#[test]
+fn long_files_are_refused_before_their_heads() {
+    let mut file = vec![0; 65_536];
+    assert_eq!(refusal(&file), (Refusal::FILE_TOO_LONG + 1, 0));
+    file.push(0);
+    assert_eq!(refusal(&file), (Refusal::FILE_TOO_LONG, 0));
+}
+
+#[test]
+fn a_row_has_at_most_1024_records() {
+    let mut file = file(&vec![Token::plain(Kind::Star); 1_024]);
+    assert_eq!(Row::read(&file).unwrap().tokens.len(), 1_024);
+    file.push(0);
+    assert_eq!(refusal(&file), (Refusal::ROW_TOO_LONG, 0));
+    // A record before that is found first, whatever follows.
+    file[11] = 13;
+    assert_eq!(refusal(&file), (Refusal::RECORD_MALFORMED, 11));
+}
+
+#[test]
+fn malformed_records_are_refused_at_their_first_byte() {
+    let good = file(&[Token::word("a")]);
+    let place = good.len();
+    let record = |length: u8, kind: u8, start: u8, end: u8| {
+        vec![length, 0, kind, 0, start, 0, 0, 0, end, 0, 0, 0]
+    };
+    let mut records = vec![
+        record(11, STAR, 0, 0),
+        record(13, STAR, 0, 0),
+        record(12, UNKNOWN, 0, 0),
+        record(12, STAR, 1, 0),
+        record(12, WORD, 0, 0),
+        record(13, WORD, 0, 0),
+    ];
+    records.extend((1..12).map(|length| record(12, STAR, 0, 0)[..length].to_vec()));
+    for record in records {
+        let file = [good.clone(), record].concat();
+        assert_eq!(
+            refusal(&file),
+            (Refusal::RECORD_MALFORMED, place as u32),
+            "{file:?}"
+        );
+    }
+    let whole = [good, record(12, STAR, 1, 1)].concat();
+    assert!(Row::read(&whole).is_ok());
+}
+
+#[test]
+fn words_have_1_to_255_bytes_from_33_to_126() {
+    for byte in 0..=255u8 {
+        let mut file = file(&[Token::word("a")]);
+        *file.last_mut().unwrap() = byte;
+        assert_eq!(Row::read(&file).is_ok(), (33..=126).contains(&byte));
+    }
+    for length in [0, 1, 2, 254, 255, 256, 257] {
+        let file = file(&[Token::word(&"x".repeat(length))]);
+        assert_eq!(Row::read(&file).is_ok(), (1..=255).contains(&length));
+    }
+}
