@@ -4,7 +4,7 @@ use Prim.Native.Nat.{ℕ, suc, _-_}
 use mathlib.Core.Bool.{Bool, true, false, not, _&&_, _||_}
 use mathlib.Core.List.{List, [], _∷_}
 use lib.ListN.{length, getD}
-use lib.Dec.{ltb, eqb}
+use lib.Dec.{leb, eqb}
 use Rattle.rows.specs.Notation.{if_then_else_, _is-one-of_}
 use Rattle.rows.specs.Languages.{C, Cpp, Fortran}
 use Rattle.rows.specs.Kinds.{Identifier, Integer, RightParen, RightBracket, Comma, Scope, Star, Ampersand, LogicalAnd, Less, Greater, ShiftRight, End, NoToken}
@@ -58,13 +58,12 @@ outside-brackets language k at s =
     let depth = s .angle-depth in
     let first = s .first-angle in
     let on-with : ℕ → ℕ → Scanned = λ d f. passed (past k s [] d f) in
-    if eqb k Less then
-    if opens-angle language (s .last) then on-with (suc depth) (if eqb first no-token then at else first)
-    else refused (UnexpectedAngle at)
-    else if eqb k Greater then
-    if eqb depth 0 then refused (UnexpectedAngle at) else on-with (depth - 1) first
-    else if eqb k ShiftRight && not (eqb depth 0) then
-    if eqb depth 1 then refused (UnexpectedAngle at) else on-with (depth - 2) first
+    if eqb k Less && not (opens-angle language (s .last)) then refused (UnexpectedAngle at)
+    else if eqb k Less then on-with (suc depth) (if eqb first no-token then at else first)
+    else if eqb k Greater && eqb depth 0 then refused (UnexpectedAngle at)
+    else if eqb k Greater then on-with (depth - 1) first
+    else if eqb k ShiftRight && eqb depth 1 then refused (UnexpectedAngle at)
+    else if eqb k ShiftRight && leb 2 depth then on-with (depth - 2) first
     else if eqb k Comma && eqb depth 0 then refused (TopLevelComma at)
     else on-with depth first
 

@@ -86,15 +86,17 @@ module _ (f : Format) (file : List ℕ) where
   unfoldable pub word-at : (at : ℕ) → List ℕ
   word-at at = take (length-at at - token-length f) (drop (at + token-length f) file)
 
-  -- "Kind 0 adds a word of 1 to 255 bytes, each 33 to 126; every other kind has length 12."
-  unfoldable pub length-fits : (at : ℕ) → Bool
-  length-fits at =
-      if eqb (kind-at at) Identifier then
+  -- "A word of 1 to 255 bytes, each 33 to 126", within the file.
+  unfoldable pub word-fits : (at : ℕ) → Bool
+  word-fits at =
       ltb (token-length f) (length-at at)
       && leb (length-at at) (token-length f + longest-word)
       && leb (at + length-at at) (length file)
       && in-range (word-at at)
-      else eqb (length-at at) (token-length f)
+
+  -- "Kind 0 adds a word ..; every other kind has length 12."
+  unfoldable pub length-fits : (at : ℕ) → Bool
+  length-fits at = if eqb (kind-at at) Identifier then word-fits at else eqb (length-at at) (token-length f)
 
   -- Refusal 4: "cut off, wrong length, kind over 57, span or word out of range".
   unfoldable pub well-formed : (at : ℕ) → Bool
