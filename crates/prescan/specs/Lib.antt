@@ -1,3 +1,4 @@
 pub mod Matcher
 pub mod Prescan
+pub mod Laws
 pub mod Examples

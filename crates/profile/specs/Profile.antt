@@ -90,8 +90,8 @@ least f (lacks g) = if leb (featureDetail f) (featureDetail g) then lacks f else
 unfoldable pub lacking : (standard : ℕ) → (kinds words : List ℕ) → List Since → Lack
 lacking standard kinds words [] = nothing
 lacking standard kinds words (s ∷ ss) =
-    if uses kinds words (s .feature) && ltb standard (s .standard) then least (s .feature) (lacking standard kinds words ss)
-    else lacking standard kinds words ss
+    let rest = lacking standard kinds words ss in
+    if uses kinds words (s .feature) && ltb standard (s .standard) then least (s .feature) rest else rest
 
 -- `validate_profile_features`
 unfoldable pub missing-feature : (language standard : ℕ) → (kinds words : List ℕ) → Lack

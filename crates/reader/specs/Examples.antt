@@ -121,13 +121,13 @@ unfolding written tree-of reading kindAt
 out = written tokens (tree-of (reading true (map (λ (t : Token). t .kind) tokens)))
 
 moved : map (λ (t : Token). t .kind) out ≡ Identifier ∷ Less ∷ LeftParen ∷ Identifier ∷ Less ∷ Identifier ∷ Greater ∷ RightParen ∷ Greater ∷ Greater ∷ []
-unfolding out tokens map
+unfolding out tokens
 moved = refl
 
 as-often : angles (halved tokens) ≡ angles (halved out)
-unfolding out tokens map halved angles
+unfolding out tokens halved angles
 as-often = refl
 
 else-same : without-angles (halved tokens) ≡ without-angles (halved out)
-unfolding out tokens map halved without-angles
+unfolding out tokens halved without-angles
 else-same = refl

@@ -26,12 +26,16 @@ depth (node k i b x) = max (deeper k (depth b)) (depth x)
 unfoldable pub tokens-of : NodeKind → Nodes → List ℕ
 unfolding number
 tokens-of k none = []
-tokens-of k (node k′ i b x) = if eqb (number k) (number k′) then i ∷ tokens-of k b ++ tokens-of k x else tokens-of k b ++ tokens-of k x
+tokens-of k (node k′ i b x) =
+    let rest = tokens-of k b ++ tokens-of k x in
+    if eqb (number k) (number k′) then i ∷ rest else rest
 
 -- The numbers of a row's tokens of one kind, counted from `at`.
 unfoldable pub numbers-of : (kind at : ℕ) → (kinds : List ℕ) → List ℕ
 numbers-of k at [] = []
-numbers-of k at (k′ ∷ ks) = if eqb k k′ then at ∷ numbers-of k (suc at) ks else numbers-of k (suc at) ks
+numbers-of k at (k′ ∷ ks) =
+    let rest = numbers-of k (suc at) ks in
+    if eqb k k′ then at ∷ rest else rest
 
 -- ---- of node number n in a list of node records
 

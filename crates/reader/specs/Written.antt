@@ -35,14 +35,20 @@ written row (node A-node i b x) = written row b ++ comma-before x (written row x
 -- Demand 3: "each `>>` in both taken as two `>`".
 unfoldable pub halved : List Token → List Token
 halved [] = []
-halved (t ∷ ts) = if eqb (t .kind) ShiftRight then sign Greater ∷ sign Greater ∷ halved ts else t ∷ halved ts
+halved (t ∷ ts) =
+    let rest = halved ts in
+    if eqb (t .kind) ShiftRight then sign Greater ∷ sign Greater ∷ rest else t ∷ rest
 
 -- How often `>` stands in a list of tokens.
 unfoldable pub angles : List Token → ℕ
 angles [] = 0
-angles (t ∷ ts) = if eqb (t .kind) Greater then suc (angles ts) else angles ts
+angles (t ∷ ts) =
+    let rest = angles ts in
+    if eqb (t .kind) Greater then suc rest else rest
 
 -- The list "once every `>` is left out".
 unfoldable pub without-angles : List Token → List Token
 without-angles [] = []
-without-angles (t ∷ ts) = if eqb (t .kind) Greater then without-angles ts else t ∷ without-angles ts
+without-angles (t ∷ ts) =
+    let rest = without-angles ts in
+    if eqb (t .kind) Greater then rest else t ∷ rest

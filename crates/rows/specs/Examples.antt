@@ -7,7 +7,7 @@ use lib.ListN.{take, replicate}
 use Rattle.rows.specs.Languages.{C, Cpp, Fortran, C89, C18, Cpp17, Fortran2018, Fortran2023}
 use Rattle.rows.specs.Kinds.{Identifier, Star}
 use Rattle.rows.specs.Format.{format, head-length, most-tokens, meant, declared, among, stands-for}
-use Rattle.rows.specs.Records.{Row, row, refused, head, head-formed, head-with, little-endian, records-from, follow, found, well-formed, length-fits, word-fits, word-at, span-end-at, span-start-at, kind-at, length-at, in-range, before-row}
+use Rattle.rows.specs.Records.{Row, row, refused, head, head-formed, head-with, little-endian, records-from, after-record, found, well-formed, length-fits, word-fits, word-at, span-end-at, span-start-at, kind-at, length-at, in-range, before-row}
 use Rattle.rows.specs.Refusals.{refusalOf, named, plainly, no-token}
 use Rattle.rows.specs.declared.answer.Refusal.{Refusal}
 use Rattle.rows.specs.declared.head.FileHead.{FileHead}
@@ -23,7 +23,7 @@ number-of-name : Known → ℕ
 number-of-name k = k .number
 
 all-known : map number-of-text known ≡ map number-of-name known
-unfolding number-of-text number-of-name known map
+unfolding number-of-text number-of-name known
 all-known = refl
 
 upper-case : word-number (bytes "LONG") ≡ long + other-case
@@ -70,7 +70,7 @@ int-star-head = refl
 
 int-star-row : records-from format int-star most-tokens head-length
     ≡ row (record { place = 11; kind = Identifier; word = bytes "int" } ∷ record { place = 26; kind = Star; word = [] } ∷ [])
-unfolding records-from follow found well-formed length-fits word-fits word-at span-end-at span-start-at kind-at length-at in-range before-row little-endian int-star head-of sign-of bytes
+unfolding records-from after-record found well-formed length-fits word-fits word-at span-end-at span-start-at kind-at length-at in-range before-row little-endian int-star head-of sign-of bytes
 int-star-row = refl
 
 -- What 255 means, and the refusals 1 to 3.
@@ -88,7 +88,7 @@ refusal-in (row ts) = plainly 0
 
 -- The records of a file with a head and these bytes, at most `most` of them.
 after-head : (most : ℕ) → List ℕ → Refusal
-unfolding refusal-in records-from follow found well-formed length-fits word-fits word-at span-end-at span-start-at kind-at length-at in-range before-row little-endian head-of
+unfolding refusal-in records-from after-record found well-formed length-fits word-fits word-at span-end-at span-start-at kind-at length-at in-range before-row little-endian head-of
 after-head most bs = refusal-in (records-from format (head-of C 0 1 0 ++ bs) most head-length)
 
 -- Cut off; kind 58; the span's end before its start; a word at another kind; no word at kind 0; a byte 127 in a word; too many, even malformed.

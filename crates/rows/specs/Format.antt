@@ -5,6 +5,8 @@ use mathlib.Core.Bool.{_&&_}
 use mathlib.Core.List.{List, [], _∷_}
 use lib.Dec.{eqb, leb, ltb}
 use Rattle.rows.specs.Notation.{if_then_else_}
+use Rattle.rows.specs.declared.head.Meaning.{Meaning}
+use Rattle.rows.specs.declared.head.Meaning.the-variants.{Means, Unknown}
 use Rattle.rows.specs.Languages.{C, Cpp, Fortran, C18, C23, Cpp17, Cpp23, Fortran2018, Fortran2023}
 
 -- A number outside the order of standards, and the standard that it means in each language.
@@ -78,11 +80,6 @@ most-tokens = 1024
 
 -- ---- standards
 
--- What a standard's number means.
-pub data Meaning : Type 0 where
-  unknown : Meaning
-  means : (standard : ℕ) → Meaning
-
 -- How many standards a language declares: "in the order in which `CStandard`, `CppStandard` and `FortranStandard` declare them, from 0".
 unfoldable pub declared : (language : ℕ) → ℕ
 declared language =
@@ -93,15 +90,15 @@ declared language =
 
 unfoldable pub stands-for : (language : ℕ) → Stand-in → Meaning
 stands-for language s =
-    if eqb language C then means (s .c)
-    else if eqb language Cpp then means (s .cpp)
-    else if eqb language Fortran then means (s .fortran)
-    else unknown
+    if eqb language C then Means (s .c)
+    else if eqb language Cpp then Means (s .cpp)
+    else if eqb language Fortran then Means (s .fortran)
+    else Unknown
 
 unfoldable pub among : (language standard : ℕ) → List Stand-in → Meaning
-among language standard [] = unknown
+among language standard [] = Unknown
 among language standard (s ∷ ss) = if eqb standard (s .number) then stands-for language s else among language standard ss
 
 -- "A number outside that order counts as the standard it means."
 unfoldable pub meant : Format → (language standard : ℕ) → Meaning
-meant f language standard = if ltb standard (declared language) then means standard else among language standard (f .stand-ins)
+meant f language standard = if ltb standard (declared language) then Means standard else among language standard (f .stand-ins)

@@ -5,4 +5,5 @@ pub mod Words
 pub mod Refusals
 pub mod Format
 pub mod Records
+pub mod Laws
 pub mod Examples

@@ -8,9 +8,13 @@ use lib.Dec.{leb, ltb, eqb}
 use Rattle.rows.specs.Notation.{if_then_else_}
 use Rattle.rows.specs.Kinds.{Identifier, End}
 use Rattle.rows.specs.Words.{word-number}
-use Rattle.rows.specs.Format.{Format, head-length, at-length, at-kind, at-language, at-standard, at-flag, at-allowance, at-span, token-length, longest-word, least-word-byte, greatest-word-byte, most-tokens, Meaning, unknown, means, meant}
+use Rattle.rows.specs.Format.{Format, head-length, at-length, at-kind, at-language, at-standard, at-flag, at-allowance, at-span, token-length, longest-word, least-word-byte, greatest-word-byte, most-tokens, meant}
 use Rattle.rows.specs.declared.answer.TypeNameError.{TypeNameError}
 use Rattle.rows.specs.declared.answer.TypeNameError.the-variants.{FileTooLong, InvalidHead, UnknownProfile, InvalidRecord, TooManyRecords}
+use Rattle.rows.specs.declared.head.Meaning.{Meaning}
+use Rattle.rows.specs.declared.head.Meaning.the-variants.{Means, Unknown}
+use Rattle.rows.specs.declared.token.TokenRecord.{TokenRecord}
+use Rattle.rows.specs.declared.token.TokenRecord.the-variants as TokenRecord
 use Rattle.rows.specs.declared.head.Head.{Head}
 use Rattle.rows.specs.declared.head.FileHead.{FileHead}
 use Rattle.rows.specs.declared.head.FileHead.the-variants.{Formed, Refused}
@@ -20,28 +24,23 @@ unfoldable pub little-endian : (width : ℕ) → (file : List ℕ) → (at : ℕ
 little-endian zero file at = 0
 little-endian (suc width) file at = getD file at 0 + 256 * little-endian width file (suc at)
 
--- A token record: its byte offset in the file, the token's kind, and the word's bytes, none but at kind 0.
-pub record TokenRecord : Type 0 where
+-- A token of a row: the byte offset of its record in the file, its kind, and its word's bytes, none but at kind 0.
+pub record RowToken : Type 0 where
   pub place : ℕ
   pub kind : ℕ
   pub word : List ℕ
 
--- What stands at a byte offset: a token record and the offset behind it, or a malformed record.
-pub data Found : Type 0 where
-  malformed : Found
-  formed : TokenRecord → (next : ℕ) → Found
-
--- Document 01's **row**, "the list of tokens of one type name, numbered from 0", as its records; or why there is none.
+-- Document 01's **row**, "the list of tokens of one type name, numbered from 0"; or why there is none.
 pub data Row : Type 0 where
   refused : TypeNameError → Row
-  row : List TokenRecord → Row
+  row : List RowToken → Row
 
 -- "Each 33 to 126".
 unfoldable pub in-range : List ℕ → Bool
 in-range [] = true
 in-range (b ∷ bs) = leb least-word-byte b && leb b greatest-word-byte && in-range bs
 
-unfoldable pub before-row : TokenRecord → Row → Row
+unfoldable pub before-row : RowToken → Row → Row
 before-row t (refused e) = refused e
 before-row t (row ts) = row (t ∷ ts)
 
@@ -57,8 +56,8 @@ module _ (f : Format) (file : List ℕ) where
       && leb (getD file at-flag 0) (f .greatest-flag)
 
   unfoldable pub head-with : Meaning → FileHead
-  head-with unknown = Refused UnknownProfile
-  head-with (means standard) =
+  head-with Unknown = Refused UnknownProfile
+  head-with (Means standard) =
       Formed (record { language = getD file at-language 0; standard = standard; flag = getD file at-flag 0; allowance = little-endian 4 file at-allowance })
 
   unfoldable pub head : FileHead
@@ -71,7 +70,7 @@ module _ (f : Format) (file : List ℕ) where
 
   -- The fields of the record at a byte offset.
   unfoldable pub length-at : (at : ℕ) → ℕ
-  length-at at = little-endian 2 file (at + at-length)
+  length-at at = little-endian 2 file at
 
   unfoldable pub kind-at : (at : ℕ) → ℕ
   kind-at at = little-endian 2 file (at + at-kind)
@@ -106,14 +105,13 @@ module _ (f : Format) (file : List ℕ) where
       && leb (span-start-at at) (span-end-at at)
       && length-fits at
 
-  unfoldable pub found : (at : ℕ) → Found
-  found at =
-      if well-formed at then formed (record { place = at; kind = kind-at at; word = word-at at }) (at + length-at at)
-      else malformed
+  -- What stands at a byte offset.
+  unfoldable pub found : (at : ℕ) → TokenRecord
+  found at = if well-formed at then TokenRecord.Formed (kind-at at) (length-at at) else TokenRecord.Malformed
 
-  unfoldable pub follow : (at : ℕ) → Found → (ℕ → Row) → Row
-  follow at malformed rest = refused (InvalidRecord at)
-  follow at (formed t next) rest = before-row t (rest next)
+  unfoldable pub after-record : (at : ℕ) → TokenRecord → (ℕ → Row) → Row
+  after-record at TokenRecord.Malformed rest = refused (InvalidRecord at)
+  after-record at (TokenRecord.Formed kind length) rest = before-row (record { place = at; kind = kind; word = word-at at }) (rest (at + length))
 
   -- The records from a byte offset to the file's end, at most so many of them: "5 a 1,025th record begins; 4 record malformed (detail: its byte offset)".
   unfoldable pub records-from : (most at : ℕ) → Row
@@ -121,16 +119,16 @@ module _ (f : Format) (file : List ℕ) where
   records-from (suc most) at =
       elim (leb (length file) at) as (λ _. Row) [
         | true ↦ row []
-        | false ↦ follow at (found at) (λ next. records-from most next)
+        | false ↦ after-record at (found at) (λ next. records-from most next)
       ]
 
 -- ---- what the layers above are given of a row
 
-unfoldable pub kinds-of : List TokenRecord → List ℕ
-kinds-of ts = map (λ (t : TokenRecord). t .kind) ts
+unfoldable pub kinds-of : List RowToken → List ℕ
+kinds-of ts = map (λ (t : RowToken). t .kind) ts
 
-unfoldable pub words-of : List TokenRecord → List ℕ
-words-of ts = map (λ (t : TokenRecord). word-number (t .word)) ts
+unfoldable pub words-of : List RowToken → List ℕ
+words-of ts = map (λ (t : RowToken). word-number (t .word)) ts
 
-unfoldable pub places-of : List TokenRecord → List ℕ
-places-of ts = map (λ (t : TokenRecord). t .place) ts
+unfoldable pub places-of : List RowToken → List ℕ
+places-of ts = map (λ (t : RowToken). t .place) ts

@@ -223,25 +223,25 @@ unfoldable pub same-ignoring-case : List ℕ → List ℕ → Bool
 unfolding same-through lower
 same-ignoring-case w v = same-through lower w v
 
--- The first entry of a table that is the word w.
-unfoldable pub find : (same : List ℕ → List ℕ → Bool) → (w : List ℕ) → List Known → ℕ
-unfolding bytes
-find same w [] = no-word
-find same w (k ∷ ks) =
-    let later = find same w ks in
-    if same w (bytes (k .text)) then k .number else later
-
 -- Added to the number of a word that is known with case ignored only.
 abbrev pub other-case : ℕ
 other-case = 128
 
--- The number of a word: n for known word n, n + 128 for known word n in other case, 0 for every other word.
+-- The number of the first entry of a table that the word w is with case ignored, as it stands if w is that entry exactly.
+unfoldable pub number-among : List Known → (w : List ℕ) → ℕ
+unfolding bytes same-exactly same-ignoring-case
+number-among [] w = no-word
+number-among (k ∷ ks) w =
+    let later = number-among ks w in
+    if same-exactly w (bytes (k .text)) then k .number
+    else if same-ignoring-case w (bytes (k .text)) then k .number + other-case
+    else later
+
+-- The number of a word: n for known word n, n + 128 for known word n in another case, 0 for every other word. (No two known words are the same with
+-- case ignored.)
 unfoldable pub word-number : List ℕ → ℕ
-unfolding find same-exactly same-ignoring-case known
-word-number w =
-    let n = find same-exactly w known in
-    let m = find same-ignoring-case w known in
-    if eqb m no-word then no-word else if eqb n no-word then m + other-case else n
+unfolding number-among known
+word-number w = number-among known w
 
 -- Which known word it is exactly, by its number.
 unfoldable pub exactly : ℕ → ℕ

@@ -1,0 +1,150 @@
+-- Where a reading ends, how deep and how large its tree is, and that nothing is left over, so that refusal 23 never comes.
+-- Assumes nothing.
+use Prim.Native.Nat.{ℕ, suc, _+_, _*_, _≤_, _<_}
+use mathlib.Core.Path.{_≡_, refl}
+use mathlib.Core.Bool.{Bool, false}
+use mathlib.Core.List.{List}
+use native.Mathlib.Omega.{arith}
+use lib.ListN.{length}
+use lib.Dec.{T}
+use Rattle.rows.specs.Kinds.{NoToken}
+use Rattle.reader.specs.Nodes.{NodeKind, Nodes, count}
+use Rattle.reader.specs.Reading.{Level, top, round, square, argument, list, got, kindAt, MAX-NESTING-DEPTH, reading}
+use Rattle.reader.specs.Standing.{deeper, depth}
+use Rattle.reader.specs.Laws.Tokens.{inside, KindsKnown, past-end}
+use Rattle.reader.specs.Laws.Derived.{Opens, parens, brackets, nodal, Closes, by-half, by-one, by-two, Read, end-row, end-group, end-argument, a-token, a-group, a-list, last, more, derived}
+
+-- One for a list: the node of its first argument, and the list of which half a `>>` may be left.
+abbrev pub for-list : Level → ℕ
+for-list top = 0
+for-list round = 0
+for-list square = 0
+for-list argument = 0
+for-list list = 1
+
+pub for-list-small : (l : Level) → for-list l ≤ 1
+for-list-small top = omega arith
+for-list-small round = omega arith
+for-list-small square = omega arith
+for-list-small argument = omega arith
+for-list-small list = omega arith
+
+pub nodal-for-list : (l : Level) → T (nodal l) → for-list l ≡ 0
+nodal-for-list top t = refl
+nodal-for-list round t = refl
+nodal-for-list square t = refl
+nodal-for-list argument t = refl
+nodal-for-list list t = absurd t
+
+pub group-for-list : {k : NodeKind} {v : Level} {o c : ℕ} → Opens k v o c → for-list v ≡ 0
+group-for-list parens = refl
+group-for-list brackets = refl
+
+group-deeper : {k : NodeKind} {v : Level} {o c : ℕ} → Opens k v o c → (d : ℕ) → deeper k d ≡ suc d
+unfolding deeper
+group-deeper parens d = refl
+group-deeper brackets d = refl
+
+module _ (row : List ℕ) where
+  pub opener-inside : {k : NodeKind} {v : Level} {o c : ℕ} → Opens k v o c → (a : ℕ) → kindAt row a ≡ o → a < length row
+  opener-inside parens a e = inside row a (omega arith)
+  opener-inside brackets a e = inside row a (omega arith)
+
+  closer-inside : {k : NodeKind} {v : Level} {o c : ℕ} → Opens k v o c → (a : ℕ) → kindAt row a ≡ c → a < length row
+  closer-inside parens a e = inside row a (omega arith)
+  closer-inside brackets a e = inside row a (omega arith)
+
+  -- ---- where a reading ends
+
+  closes-end : {d a a′ : ℕ} {h h′ : Bool} → Closes row d a h a′ h′ → (a ≤ a′) × (a ≤ length row → a′ ≤ length row)
+  closes-end by-half = omega arith
+  closes-end {a = a} (by-one e) = let u : a < length row = inside row a (omega arith) in omega arith
+  closes-end {a = a} (by-two e f) = let u : a < length row = inside row a (omega arith) in omega arith
+
+  -- A reading ends at its start or after it.
+  pub forwards : {l : Level} {d n a a′ : ℕ} {h h′ : Bool} {x : Nodes} → Read row l d n a h x a′ h′ → a ≤ a′
+  forwards (end-row e) = omega arith
+  forwards (end-group op e) = omega arith
+  forwards (end-argument s) = omega arith
+  forwards (a-token t p r) = omega (arith, forwards r)
+  forwards (a-group t lim op e r₁ r) = omega (arith, forwards r₁, forwards r)
+  forwards (a-list t lim e r₁ r) = omega (arith, forwards r₁, forwards r)
+  forwards (last r c) = omega (arith, forwards r, closes-end c .0)
+  forwards (more r e r₁) = omega (arith, forwards r, forwards r₁)
+
+  -- ---- nesting
+
+  pub nests : {l : Level} {d n a a′ : ℕ} {h h′ : Bool} {x : Nodes} → Read row l d n a h x a′ h′ → n ≤ MAX-NESTING-DEPTH → n + depth x ≤ MAX-NESTING-DEPTH
+  unfolding depth deeper
+  nests (end-row e) s = omega arith
+  nests (end-group op e) s = omega arith
+  nests (end-argument s₁) s = omega arith
+  nests (a-token t p r) s = omega (arith, nests r s)
+  nests (a-group {b = b} t lim op e r₁ r) s = omega (arith, nests r₁ lim, nests r s, group-deeper op (depth b))
+  nests (a-list t lim e r₁ r) s = omega (arith, nests r₁ lim, nests r s)
+  nests (last r c) s = omega (arith, nests r s)
+  nests (more r e r₁) s = omega (arith, nests r s, nests r₁ s)
+
+  -- ---- size: at most two nodes a token, and one for a list
+  pub sized : {l : Level} {d n a a′ : ℕ} {h h′ : Bool} {x : Nodes} → Read row l d n a h x a′ h′ → count x + 2 * a ≤ 2 * a′ + for-list l
+  unfolding count
+  sized (end-row e) = omega arith
+  sized (end-group op e) = omega arith
+  sized (end-argument s) = omega arith
+  sized (a-token t p r) = omega (arith, sized r)
+  sized (a-group t lim op e r₁ r) = omega (arith, sized r₁, sized r, group-for-list op)
+  sized (a-list t lim e r₁ r) = omega (arith, sized r₁, sized r)
+  sized (last r c) = omega (arith, sized r, closes-end c .0)
+  sized (more r e r₁) = omega (arith, sized r, sized r₁)
+
+  -- ---- half a `>>`
+
+  -- Where no list is open around it, a reading that begins with no half leaves none: a list leaves one only if another is open.
+  pub no-half : {l : Level} {d n a a′ : ℕ} {h h′ : Bool} {x : Nodes} → Read row l d n a h x a′ h′ → d ≤ for-list l → h ≡ false → h′ ≡ false
+  no-half (end-row e) s q = q
+  no-half (end-group op e) s q = q
+  no-half (end-argument s₁) s q = q
+  no-half (a-token t p r) s q = no-half r s q
+  no-half (a-group {l = l} t lim op e r₁ r) s q = no-half r s (no-half r₁ (omega (arith, nodal-for-list l t)) q)
+  no-half (a-list {l = l} t lim e r₁ r) s q = no-half r s (no-half r₁ (omega (arith, nodal-for-list l t)) q)
+  no-half (last r by-half) s q = refl
+  no-half (last r (by-one e)) s q = refl
+  no-half (last r (by-two e f)) s q = absurd (omega arith)
+  no-half (more r e r₁) s q = no-half r₁ s refl
+
+  -- The top level ends at the end of the row.
+  pub top-ends : {d n a a′ : ℕ} {h h′ : Bool} {x : Nodes} → Read row top d n a h x a′ h′ → kindAt row a′ ≡ NoToken
+  top-ends (end-row e) = e
+  top-ends (a-token t p r) = top-ends r
+  top-ends (a-group t lim op e r₁ r) = top-ends r
+  top-ends (a-list t lim e r₁ r) = top-ends r
+
+  -- A reading that begins in the row, or at its end, ends so.
+  pub within : {l : Level} {d n a a′ : ℕ} {h h′ : Bool} {x : Nodes} → Read row l d n a h x a′ h′ → a ≤ length row → a′ ≤ length row
+  within (end-row e) s = s
+  within (end-group {a = a} op e) s = closer-inside op a e
+  within (end-argument s₁) s = s
+  within (a-token {a = a} t p r) s = within r (inside row a (p .inside))
+  within (a-group {a = a} t lim op e r₁ r) s = within r (within r₁ (opener-inside op a e))
+  within (a-list {a = a} t lim e r₁ r) s = within r (within r₁ (inside row a (omega arith)))
+  within (last r c) s = closes-end c .1 (within r s)
+  within (more {a₁ = a₁} r e r₁) s = within r₁ (inside row a₁ (omega arith))
+
+  -- ---- of the whole row
+
+  module _ (cpp : Bool) (x : Nodes) (a : ℕ) (h : Bool) (m : ℕ) (e : reading cpp row ≡ got x a h m) where
+    -- Every token has been read, and no half a `>>` is left: refusal 23 never comes.
+    pub nothing-left : KindsKnown row → (a ≡ length row) × (h ≡ false)
+    nothing-left ks =
+        let r : Read row top 0 0 0 false x a h = derived row cpp x a h m e in
+        (omega (arith, within r (omega arith), past-end row ks a (top-ends r)), no-half r (omega arith) refl)
+
+    -- "Groups and lists nest to 64."
+    pub nesting : depth x ≤ MAX-NESTING-DEPTH
+    nesting = omega (arith, nests (derived row cpp x a h m e) (omega arith))
+
+    -- Two nodes a token.
+    pub two-nodes : count x ≤ 2 * length row
+    two-nodes =
+        let r : Read row top 0 0 0 false x a h = derived row cpp x a h m e in
+        omega (arith, sized r, within r (omega arith))

@@ -1,0 +1,32 @@
+-- `four_bytes` meets its contract. Assumes nothing.
+use native.Mathlib.Omega.{arith}
+use Rattle.rows.specs.Laws.Bytes.{four-bytes}
+use borrow.Author.Needs.{needs}
+use Rattle.rows.proofs.bytes.four_bytes.Statement.{statement}
+use Rattle.rows.proofs.bytes.four_bytes.Tie as tie
+use Rattle.rows.proofs.bytes.four_bytes.Reads as reads
+use Rattle.rows.proofs.bytes.four_bytes.Lts as lts
+use Rattle.rows.proofs.bytes.two_bytes.Reads as two-bytes-reads
+
+two-bytes-requires : tie.Need-two-bytes-requires
+two-bytes-requires c κs = search needs
+
+add-two-bytes : tie.Need-add-two-bytes
+add-two-bytes c = search needs
+
+two-bytes-requires-2 : tie.Need-two-bytes-requires-2
+two-bytes-requires-2 c κs = search needs
+
+mul-result : tie.Need-mul-result
+mul-result c = search needs
+
+add-result : tie.Need-add-result
+add-result c = search needs
+
+returns : tie.Need-returns
+returns c = omega (arith, four-bytes (c .before .before .before .args .file .now) (c .before .before .before .args .at))
+
+pub four-bytes-spec : {M : Type 1} → statement M
+four-bytes-spec =
+    tie.close
+    (tie.spec two-bytes-requires add-two-bytes two-bytes-requires-2 mul-result add-result returns)

@@ -1,0 +1,77 @@
+-- What is done at a node of a C or C++ type name and of an abstract declarator: the loops of `validate_c_family_type` and
+-- `validate_abstract_declarator`. Document 01, "Node record". s and w: shape and word of the node; `left`, `right`: shape of the node before and after
+-- it; lw: word of the node before it. Words are compared exactly.
+-- Assumes nothing.
+use Prim.Native.Nat.{ℕ}
+use mathlib.Core.Bool.{Bool, true, false, _&&_, _||_, not}
+use mathlib.Core.List.{List}
+use lib.Dec.{eqb}
+use Rattle.rows.specs.Notation.{if_then_else_, _is-one-of_}
+use Rattle.rows.specs.Languages.{C, Cpp}
+use Rattle.rows.specs.Kinds.{Identifier, Scope, Star}
+use Rattle.rows.specs.Words.{noexcept, «_Atomic», decltype, «_BitInt»}
+use Rattle.reader.specs.Nodes.{Nodes}
+use Rattle.structure.specs.Shapes.{NoNode, Parenthesized, Bracketed, TemplateArguments, shape, any}
+use Rattle.structure.specs.Sets.{typeof-words, reference-operators, declarator-starts, is-c-family-declarator-qualifier}
+use Rattle.structure.specs.Moves.{Test, type-name, expression, optional-expression, type-or-expression, array-bound, declarator, arguments}
+use Rattle.structure.specs.Moves.{declarator-or-parameters, Move, inside, on-if, inside-if}
+
+-- `looks_like_abstract_declarator`
+unfoldable pub looks-like-abstract-declarator : (kinds : List ℕ) → Nodes → Bool
+looks-like-abstract-declarator kinds x = shape kinds x is-one-of declarator-starts || (any kinds Scope x && any kinds Star x)
+
+-- `scope_has_valid_neighbors`
+unfoldable pub scope-has-valid-neighbors : (left right : ℕ) → Bool
+scope-has-valid-neighbors left right =
+    (eqb left NoNode || eqb left Identifier || eqb left TemplateArguments) && (eqb right Identifier || eqb right Star)
+
+-- An identifier in a declarator: `next_is_scope`, `next_is_template` or `previous_is_scope`.
+unfoldable pub is-part-of-name : (left right : ℕ) → Bool
+is-part-of-name left right = eqb right Scope || eqb right TemplateArguments || eqb left Scope
+
+-- The variables of `validate_c_family_type`, below for short: word, started, reference.
+pub data TypeState : Type 0 where
+  type-state : (saw-type-word declarator-started saw-reference : Bool) → TypeState
+
+unfoldable pub type-end : TypeState → Bool
+type-end (type-state word started reference) = word
+
+-- The variables of `validate_abstract_declarator`, below for short: operator, reference.
+pub data DeclaratorState : Type 0 where
+  declarator-state : (saw-operator saw-reference : Bool) → DeclaratorState
+
+unfoldable pub declarator-end : DeclaratorState → Bool
+declarator-end (declarator-state operator reference) = operator
+
+module _ (lang : ℕ) where
+  -- `validate_c_family_type` at parentheses, by the identifier before them. They start the declarator, but not after `_BitInt`.
+  unfoldable pub c-family-group : (lw : ℕ) → TypeState → Move TypeState
+  c-family-group lw (type-state word started reference) =
+      if eqb lw decltype then inside-if (eqb lang Cpp) expression (type-state word true reference)
+      else if lw is-one-of typeof-words then inside type-or-expression (type-state word true reference)
+      else if eqb lw «_Atomic» then inside-if (eqb lang C) type-name (type-state word true reference)
+      else if eqb lw «_BitInt» then inside-if (eqb lang C) expression (type-state word started reference)
+      else if eqb lw noexcept && started then inside-if (eqb lang Cpp) optional-expression (type-state word true reference)
+      else inside (declarator-or-parameters word) (type-state word true reference)
+
+  -- `validate_c_family_type` at a node.
+  unfoldable pub c-family-node : (left lw s w right : ℕ) → TypeState → Move TypeState
+  c-family-node left lw s w right (type-state word started reference) =
+      if eqb s Identifier then on-if (not started || is-c-family-declarator-qualifier w) (type-state true started reference)
+      else if eqb s Scope then on-if (eqb lang Cpp && scope-has-valid-neighbors left right) (type-state word started reference)
+      else if eqb s TemplateArguments then inside-if (eqb lang Cpp && eqb left Identifier) arguments (type-state true started reference)
+      else if eqb s Star then on-if (word && not reference) (type-state word true reference)
+      else if s is-one-of reference-operators then on-if (eqb lang Cpp && word && not reference) (type-state word true true)
+      else if eqb s Parenthesized then c-family-group lw (type-state word started reference)
+      else inside-if (eqb s Bracketed && word) array-bound (type-state word true reference)
+
+  -- `validate_abstract_declarator` at a node.
+  unfoldable pub abstract-declarator-node : (left s w right : ℕ) → DeclaratorState → Move DeclaratorState
+  abstract-declarator-node left s w right (declarator-state operator reference) =
+      if eqb s Star then on-if (not reference) (declarator-state true reference)
+      else if s is-one-of reference-operators then on-if (eqb lang Cpp && not reference) (declarator-state true true)
+      else if eqb s Identifier then on-if (is-c-family-declarator-qualifier w || is-part-of-name left right) (declarator-state operator reference)
+      else if eqb s Scope then on-if (eqb lang Cpp && scope-has-valid-neighbors left right) (declarator-state operator reference)
+      else if eqb s TemplateArguments then inside-if (eqb lang Cpp && eqb left Identifier) arguments (declarator-state operator reference)
+      else if eqb s Parenthesized then inside declarator (declarator-state true reference)
+      else inside-if (eqb s Bracketed) array-bound (declarator-state true reference)

@@ -1,0 +1,280 @@
+-- Computed examples of the structure check, so that a wrong edit of a definition is refused here. The answers are those of type_name.rs at the
+-- latest standards; the steps are those of the reading and of the check together.
+use Prim.Native.Nat.{ℕ, _+_}
+use mathlib.Core.Path.{_≡_, refl}
+use mathlib.Core.List.{List, [], _∷_}
+use lib.Dec.{eqb}
+use Rattle.rows.specs.Notation.{_is-one-of_}
+use Rattle.rows.specs.Languages.{C, Cpp, Fortran}
+use Rattle.rows.specs.Kinds.{Identifier, Integer, Boolean, LeftParen, RightParen, LeftBracket, RightBracket, Comma, Question, Colon, Scope, Dot}
+use Rattle.rows.specs.Kinds.{Percent, Plus, Minus, Star, BitwiseNot, Ampersand, LogicalAnd, LogicalNeqv, Equal, Less, Greater, ShiftRight, PlusPlus}
+use Rattle.rows.specs.Words.{no-word, void, char, int, double, long, signed, unsigned, const, noexcept, typeof, «_BitInt», struct, class, type}
+use Rattle.rows.specs.Words.{precision, other-case, exactly, ignoring-case}
+use Rattle.reader.specs.Nodes.{count}
+use Rattle.reader.specs.Reading.{Got, got, bad, kindAt, reading}
+use Rattle.structure.specs.Shapes.{shape-of, empty, next, arguments-of, prepend, parts-are-full, shape, node-identifier, any, is-single-token}
+use Rattle.structure.specs.Shapes.{is-ellipsis, split-on-commas}
+use Rattle.structure.specs.Sets.{builtin-type-words, scalar-bases, signs, declarator-qualifiers, parenthesis-words, typeof-words}
+use Rattle.structure.specs.Sets.{elaborated-words, cpp-elaborated-words, derived-type-words, words-after-double, is-c-builtin-type-word}
+use Rattle.structure.specs.Sets.{is-c-family-declarator-qualifier, is-keyword, reference-operators, declarator-starts, literals}
+use Rattle.structure.specs.Sets.{member-accesses, accesses-of, prefix-operators, postfix-operators, c-family-operators, fortran-operators}
+use Rattle.structure.specs.Sets.{is-binary-or-assignment-operator}
+use Rattle.structure.specs.Moves.{Said, holds, fails, after, both, either, plain, every, on-if, inside-if}
+use Rattle.structure.specs.Specifiers.{none-seen, times, has, once-more, how-many, builtin-words, too-often, no-builtin-word}
+use Rattle.structure.specs.Specifiers.{validate-c-bit-int-sign, validate-c-builtin-combination, specifiers-end, parenthesis-word}
+use Rattle.structure.specs.Specifiers.{qualifier-word, elaborated-word, builtin-word, name-word, specifier-scope, specifier-list}
+use Rattle.structure.specs.Specifiers.{specifier-node, specifiers-from, validate-c-decl-specifiers}
+use Rattle.structure.specs.Declarators.{looks-like-abstract-declarator, scope-has-valid-neighbors, is-part-of-name, type-end, declarator-end}
+use Rattle.structure.specs.Declarators.{c-family-group, c-family-node, abstract-declarator-node}
+use Rattle.structure.specs.Expressions.{expression-end, expression-node}
+use Rattle.structure.specs.FortranTypes.{fortran-head, validate-fortran-type-head, fortran-end, fortran-node}
+use Rattle.structure.specs.Structure.{validate-cpp-template-argument, validate-parameter, validate-parameter-type-list}
+use Rattle.structure.specs.Structure.{validate-fortran-selector-value, validate-fortran-selector, validate-fortran-selector-list, test, follow}
+use Rattle.structure.specs.Structure.{run, validate-c-family-type, validate-expression, validate-abstract-declarator, validate-fortran-type}
+use Rattle.structure.specs.Structure.{turn, checkF, checked, validate-structured-syntax}
+
+-- A row: each token an identifier, by its word number, or another token, by its kind.
+pub data Token : Type 0 where
+  word : (number : ℕ) → Token
+  token : (kind : ℕ) → Token
+
+-- An identifier that is no known word, and one that is a known word in other case.
+abbrev name : Token
+name = word no-word
+
+abbrev other-case-of : ℕ → Token
+other-case-of w = word (w + other-case)
+
+unfoldable pub kinds-of : List Token → List ℕ
+kinds-of [] = []
+kinds-of (word w ∷ row) = Identifier ∷ kinds-of row
+kinds-of (token k ∷ row) = k ∷ kinds-of row
+
+unfoldable pub words-of : List Token → List ℕ
+words-of [] = []
+words-of (word w ∷ row) = w ∷ words-of row
+words-of (token k ∷ row) = no-word ∷ words-of row
+
+-- The check of what the reading came to.
+unfoldable pub checked-reading : (lang : ℕ) (kinds words : List ℕ) → Got → Said
+unfolding _is-one-of_ exactly ignoring-case count kindAt shape-of empty next arguments-of prepend parts-are-full shape node-identifier any is-single-token is-ellipsis split-on-commas builtin-type-words scalar-bases signs declarator-qualifiers parenthesis-words typeof-words elaborated-words cpp-elaborated-words derived-type-words words-after-double is-c-builtin-type-word is-c-family-declarator-qualifier is-keyword reference-operators declarator-starts literals member-accesses accesses-of prefix-operators postfix-operators c-family-operators fortran-operators is-binary-or-assignment-operator after both either plain every on-if inside-if none-seen times has once-more how-many builtin-words too-often no-builtin-word validate-c-bit-int-sign validate-c-builtin-combination specifiers-end parenthesis-word qualifier-word elaborated-word builtin-word name-word specifier-scope specifier-list specifier-node specifiers-from validate-c-decl-specifiers looks-like-abstract-declarator scope-has-valid-neighbors is-part-of-name type-end declarator-end c-family-group c-family-node abstract-declarator-node expression-end expression-node fortran-head validate-fortran-type-head fortran-end fortran-node validate-cpp-template-argument validate-parameter validate-parameter-type-list validate-fortran-selector-value validate-fortran-selector validate-fortran-selector-list test follow run validate-c-family-type validate-expression validate-abstract-declarator validate-fortran-type turn checkF checked validate-structured-syntax
+checked-reading lang kinds words (got x at half m) = after m (validate-structured-syntax lang kinds words x)
+checked-reading lang kinds words (bad e m) = fails m
+
+unfoldable pub judged-row : (lang : ℕ) (kinds words : List ℕ) → Said
+unfolding checked-reading reading
+judged-row lang kinds words = checked-reading lang kinds words (reading (eqb lang Cpp) kinds)
+
+unfoldable pub judged : (lang : ℕ) → List Token → Said
+unfolding judged-row kinds-of words-of
+judged lang row = judged-row lang (kinds-of row) (words-of row)
+
+-- ---- C: declaration specifiers
+
+-- `int`
+one-word : judged C (word int ∷ []) ≡ holds 2
+unfolding judged
+one-word = refl
+
+-- `long long`
+long-long : judged C (word long ∷ word long ∷ []) ≡ holds 3
+unfolding judged
+long-long = refl
+
+-- `long long long`
+long-long-long : judged C (word long ∷ word long ∷ word long ∷ []) ≡ fails 4
+unfolding judged
+long-long-long = refl
+
+-- `signed unsigned`
+signed-unsigned : judged C (word signed ∷ word unsigned ∷ []) ≡ fails 3
+unfolding judged
+signed-unsigned = refl
+
+-- `long double long`
+long-long-double : judged C (word long ∷ word double ∷ word long ∷ []) ≡ fails 4
+unfolding judged
+long-long-double = refl
+
+-- `const int const`
+const-twice : judged C (word const ∷ word int ∷ word const ∷ []) ≡ fails 4
+unfolding judged
+const-twice = refl
+
+-- `LONG const LONG`
+words-in-other-case : judged C (other-case-of long ∷ word const ∷ other-case-of long ∷ []) ≡ fails 4
+unfolding judged
+words-in-other-case = refl
+
+-- `struct Lane`
+elaborated : judged C (word struct ∷ name ∷ []) ≡ holds 3
+unfolding judged
+elaborated = refl
+
+-- `class Lane`
+class-in-c : judged C (word class ∷ name ∷ []) ≡ fails 3
+unfolding judged
+class-in-c = refl
+
+-- `unsigned _BitInt(8)`
+bit-int : judged C (word unsigned ∷ word «_BitInt» ∷ token LeftParen ∷ token Integer ∷ token RightParen ∷ []) ≡ holds 6
+unfolding judged
+bit-int = refl
+
+-- `_BitInt(8) unsigned`
+bit-int-sign-after : judged C (word «_BitInt» ∷ token LeftParen ∷ token Integer ∷ token RightParen ∷ word unsigned ∷ []) ≡ holds 6
+unfolding judged
+bit-int-sign-after = refl
+
+-- `signed _BitInt(8) unsigned`
+bit-int-two-signs : judged C (word signed ∷ word «_BitInt» ∷ token LeftParen ∷ token Integer ∷ token RightParen ∷ word unsigned ∷ []) ≡ fails 6
+unfolding judged
+bit-int-two-signs = refl
+
+-- `typeof(int *)`
+typeof-type : judged C (word typeof ∷ token LeftParen ∷ word int ∷ token Star ∷ token RightParen ∷ []) ≡ holds 6
+unfolding judged
+typeof-type = refl
+
+-- `typeof(a + 1)`
+typeof-expression : judged C (word typeof ∷ token LeftParen ∷ name ∷ token Plus ∷ token Integer ∷ token RightParen ∷ []) ≡ holds 8
+unfolding judged
+typeof-expression = refl
+
+-- ---- C and C++: declarators
+
+-- `int (*)(char, ...)`
+pointer-to-function : judged C (word int ∷ token LeftParen ∷ token Star ∷ token RightParen ∷ token LeftParen ∷ word char ∷ token Comma ∷ token Dot ∷ token Dot ∷ token Dot ∷ token RightParen ∷ []) ≡ holds 12
+unfolding judged
+pointer-to-function = refl
+
+-- `int (*)(char,)`
+empty-parameter : judged C (word int ∷ token LeftParen ∷ token Star ∷ token RightParen ∷ token LeftParen ∷ word char ∷ token Comma ∷ token RightParen ∷ []) ≡ fails 8
+unfolding judged
+empty-parameter = refl
+
+-- `int * Lane`
+name-after-star : judged C (word int ∷ token Star ∷ name ∷ []) ≡ fails 4
+unfolding judged
+name-after-star = refl
+
+-- `int &&`
+reference-in-cpp : judged Cpp (word int ∷ token LogicalAnd ∷ []) ≡ holds 3
+unfolding judged
+reference-in-cpp = refl
+
+-- `int && &`
+reference-to-reference : judged Cpp (word int ∷ token LogicalAnd ∷ token Ampersand ∷ []) ≡ fails 4
+unfolding judged
+reference-to-reference = refl
+
+-- `int (Lane::*)(void) const noexcept(true)`
+member-pointer : judged Cpp (word int ∷ token LeftParen ∷ name ∷ token Scope ∷ token Star ∷ token RightParen ∷ token LeftParen ∷ word void ∷ token RightParen ∷ word const ∷ word noexcept ∷ token LeftParen ∷ token Boolean ∷ token RightParen ∷ []) ≡ holds 15
+unfolding judged
+member-pointer = refl
+
+-- ---- C++: names and template arguments
+
+-- `::Lane`
+leading-scope : judged Cpp (token Scope ∷ name ∷ []) ≡ holds 3
+unfolding judged
+leading-scope = refl
+
+-- `::int`
+leading-scope-keyword : judged Cpp (token Scope ∷ word int ∷ []) ≡ fails 3
+unfolding judged
+leading-scope-keyword = refl
+
+-- `Lane::(*)`
+scope-at-end : judged Cpp (name ∷ token Scope ∷ token LeftParen ∷ token Star ∷ token RightParen ∷ []) ≡ fails 5
+unfolding judged
+scope-at-end = refl
+
+-- `A<B<c>>`
+nested-lists : judged Cpp (name ∷ token Less ∷ name ∷ token Less ∷ name ∷ token ShiftRight ∷ []) ≡ holds 8
+unfolding judged
+nested-lists = refl
+
+-- `Lane<4 + 4>`
+expression-argument : judged Cpp (name ∷ token Less ∷ token Integer ∷ token Plus ∷ token Integer ∷ token Greater ∷ []) ≡ holds 8
+unfolding judged
+expression-argument = refl
+
+-- `Lane<4 +>`
+bad-argument : judged Cpp (name ∷ token Less ∷ token Integer ∷ token Plus ∷ token Greater ∷ []) ≡ fails 7
+unfolding judged
+bad-argument = refl
+
+-- `Lane<(Key<8>>2)>`
+island-lane : judged Cpp (name ∷ token Less ∷ token LeftParen ∷ name ∷ token Less ∷ token Integer ∷ token ShiftRight ∷ token Integer ∷ token RightParen ∷ token Greater ∷ []) ≡ fails 14
+unfolding judged
+island-lane = refl
+
+-- `A>>b`
+shift : judged Cpp (name ∷ token ShiftRight ∷ name ∷ []) ≡ fails 4
+unfolding judged
+shift = refl
+
+-- ---- expressions
+
+-- `int [-a.b[1](2)++ ? c : ~d()]`
+many-operators : judged C (word int ∷ token LeftBracket ∷ token Minus ∷ name ∷ token Dot ∷ name ∷ token LeftBracket ∷ token Integer ∷ token RightBracket ∷ token LeftParen ∷ token Integer ∷ token RightParen ∷ token PlusPlus ∷ token Question ∷ name ∷ token Colon ∷ token BitwiseNot ∷ name ∷ token LeftParen ∷ token RightParen ∷ token RightBracket ∷ []) ≡ holds 21
+unfolding judged
+many-operators = refl
+
+-- `int [()]`
+empty-parentheses : judged C (word int ∷ token LeftBracket ∷ token LeftParen ∷ token RightParen ∷ token RightBracket ∷ []) ≡ fails 5
+unfolding judged
+empty-parentheses = refl
+
+-- `int [a ? b]`
+colon-missing : judged C (word int ∷ token LeftBracket ∷ name ∷ token Question ∷ name ∷ token RightBracket ∷ []) ≡ fails 7
+unfolding judged
+colon-missing = refl
+
+-- `int [a +]`
+operator-last : judged C (word int ∷ token LeftBracket ∷ name ∷ token Plus ∷ token RightBracket ∷ []) ≡ fails 6
+unfolding judged
+operator-last = refl
+
+-- ---- Fortran
+
+-- `real*8`
+real-star : judged Fortran (name ∷ token Star ∷ token Integer ∷ []) ≡ holds 4
+unfolding judged
+real-star = refl
+
+-- `double`
+double-alone : judged Fortran (word double ∷ []) ≡ fails 2
+unfolding judged
+double-alone = refl
+
+-- `DOUBLE Precision`
+double-precision : judged Fortran (word double ∷ word precision ∷ []) ≡ holds 3
+unfolding judged
+double-precision = refl
+
+-- `Type(Lane)`
+derived-type : judged Fortran (word type ∷ token LeftParen ∷ name ∷ token RightParen ∷ []) ≡ holds 5
+unfolding judged
+derived-type = refl
+
+-- `character(len=*, kind=a%b)`
+selectors : judged Fortran (name ∷ token LeftParen ∷ name ∷ token Equal ∷ token Star ∷ token Comma ∷ name ∷ token Equal ∷ name ∷ token Percent ∷ name ∷ token RightParen ∷ []) ≡ holds 13
+unfolding judged
+selectors = refl
+
+-- `character*(*)`
+character-star : judged Fortran (name ∷ token Star ∷ token LeftParen ∷ token Star ∷ token RightParen ∷ []) ≡ fails 5
+unfolding judged
+character-star = refl
+
+-- `logical(a .neqv. b)`
+neqv : judged Fortran (name ∷ token LeftParen ∷ name ∷ token LogicalNeqv ∷ name ∷ token RightParen ∷ []) ≡ holds 7
+unfolding judged
+neqv = refl
+
+-- `integer(:, kind=)`
+empty-selector-value : judged Fortran (name ∷ token LeftParen ∷ token Colon ∷ token Comma ∷ name ∷ token Equal ∷ token RightParen ∷ []) ≡ fails 7
+unfolding judged
+empty-selector-value = refl

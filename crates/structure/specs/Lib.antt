@@ -1,0 +1,10 @@
+pub mod Shapes
+pub mod Sets
+pub mod Moves
+pub mod Specifiers
+pub mod Declarators
+pub mod Expressions
+pub mod FortranTypes
+pub mod Structure
+pub mod Laws
+pub mod Examples

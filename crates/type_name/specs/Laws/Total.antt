@@ -1,0 +1,195 @@
+-- Every list of bytes and every buffer has one answer, its number is one of document 01's, and a refused answer's buffer is as document 01 says.
+-- (That there is one answer is in the types: `answer` and `final-buffer` are functions of the file and the buffer, defined everywhere.)
+-- Assumes nothing.
+use Prim.Native.Nat.{ℕ, _+_, _-_, _*_, _≤_, _<_}
+use mathlib.Core.Path.{_≡_, refl, ap, sym, subst, _∙_}
+use mathlib.Core.Bool.{Bool, true, false, not, _&&_, _||_}
+use mathlib.Core.List.{List, [], _∷_, _++_}
+use native.Mathlib.Omega.{arith}
+use lib.ListN.{length, replicate}
+use lib.Dec.{T, leb, ltb, eqb, leb→le, le→leb}
+use mir.Facts.{and-yes}
+use Rattle.rows.specs.Notation.{if_then_else_, _is-one-of_}
+use Rattle.rows.specs.Languages.{Cpp}
+use Rattle.rows.specs.Format.{format, head-length, most-tokens}
+use Rattle.rows.specs.Records.{RowToken, Row, row, head, records-from, kinds-of, words-of}
+use Rattle.rows.specs.Records
+use Rattle.rows.specs.Refusals.{refusalOf, featureDetail}
+use Rattle.rows.specs.Laws.Tests.{by-if}
+use Rattle.rows.specs.Laws.Numbered.{Between, HeadNumbered, head-numbered, RowNumbered, records-numbered}
+use Rattle.rows.specs.declared.answer.Feature.{Feature}
+use Rattle.rows.specs.declared.answer.TypeNameError.{TypeNameError}
+use Rattle.rows.specs.declared.answer.TypeNameError.the-variants.{FileTooLong, InvalidHead, UnknownProfile, InvalidRecord, TooManyRecords, ShortBuffer, Empty, UnexpectedClosingDelimiter, UnexpectedAngle, TopLevelComma, UnexpectedEndToken, UnclosedDelimiter, UnclosedAngle, MissingTypeWord, InvalidBoundaryToken, NestingLimitExceeded, UnterminatedGroup, MismatchedClosingDelimiter, UnexpectedTokenAfterTypeName, AllowancePassed, NoTypeName, NotAvailableInProfile}
+use Rattle.rows.specs.declared.answer.Answer.{Answer}
+use Rattle.rows.specs.declared.answer.Answer.the-variants.{Accepted, Refused}
+use Rattle.rows.specs.declared.head.Head.{Head}
+use Rattle.rows.specs.declared.head.FileHead.{FileHead}
+use Rattle.rows.specs.declared.head.FileHead.the-variants as FileHead
+use Rattle.prescan.specs.Prescan.{Scanned, passed, prescan}
+use Rattle.prescan.specs.Prescan
+use Rattle.prescan.specs.Laws.Numbered.{prescan-numbered}
+use Rattle.prescan.specs.Laws.Numbered
+use Rattle.reader.specs.Nodes.{Nodes}
+use Rattle.reader.specs.Reading.{Got, got, bad, Fault, refusal, no-list, reading}
+use Rattle.reader.specs.Laws.Numbered.{FaultNumbered, reading-numbered}
+use Rattle.reader.specs.Laws.Numbered as Read
+use Rattle.structure.specs.Moves.{Said, holds, fails}
+use Rattle.profile.specs.Profile.{Lack, nothing, lacks, missing-feature}
+use Rattle.type_name.specs.Answers.{RowAnswer, accepted, refused, refusal-of, after-structure, after-reading, structure-of, whole-row, after-prescan, from-prescan, unlimited, limited, answerOf, Outcome, untouched, read, numbers-per-token, of-row, of-records, of-head, outcome, answer-in, answer, filled, buffer-in, final-buffer}
+
+-- ---- the numbers
+
+-- The refusals of document 01's table.
+abbrev pub numbers : List ℕ
+numbers = 1 ∷ 2 ∷ 3 ∷ 4 ∷ 5 ∷ 6 ∷ 10 ∷ 11 ∷ 12 ∷ 13 ∷ 14 ∷ 15 ∷ 16 ∷ 17 ∷ 18 ∷ 20 ∷ 21 ∷ 22 ∷ 23 ∷ 25 ∷ 30 ∷ 40 ∷ []
+
+pub listed : (e : TypeNameError) → T (refusalOf e .number is-one-of numbers)
+unfolding _is-one-of_
+listed FileTooLong = tt
+listed InvalidHead = tt
+listed UnknownProfile = tt
+listed (InvalidRecord offset) = tt
+listed TooManyRecords = tt
+listed ShortBuffer = tt
+listed Empty = tt
+listed (UnexpectedClosingDelimiter expected actual token) = tt
+listed (UnexpectedAngle token) = tt
+listed (TopLevelComma token) = tt
+listed (UnexpectedEndToken token) = tt
+listed (UnclosedDelimiter delimiter token) = tt
+listed (UnclosedAngle token) = tt
+listed MissingTypeWord = tt
+listed InvalidBoundaryToken = tt
+listed NestingLimitExceeded = tt
+listed UnterminatedGroup = tt
+listed MismatchedClosingDelimiter = tt
+listed UnexpectedTokenAfterTypeName = tt
+listed AllowancePassed = tt
+listed NoTypeName = tt
+listed (NotAvailableInProfile feature) = tt
+
+-- ---- refusals up to 6 come before the row is read, the others after
+
+abbrev RowPlaced : RowAnswer → Type 0
+RowPlaced (accepted x m) = Unit {0}
+RowPlaced (refused e m) = Between 10 40 e
+
+abbrev Placed : Outcome → Type 0
+Placed (untouched e) = Between 1 6 e
+Placed (read a) = RowPlaced a
+
+-- A wider range.
+wider : (low high low′ high′ : ℕ) → low′ ≤ low → high ≤ high′ → (e : TypeNameError) → Between low high e → Between low′ high′ e
+wider low high low′ high′ p q e t =
+    let u = and-yes (leb low (refusalOf e .number)) (leb (refusalOf e .number) high) t in
+    both (leb low′ (refusalOf e .number)) (leb (refusalOf e .number) high′)
+    (le→leb low′ (refusalOf e .number) (omega (arith, leb→le low (refusalOf e .number) (u .0))))
+    (le→leb (refusalOf e .number) high′ (omega (arith, leb→le (refusalOf e .number) high (u .1))))
+  where
+    both : (a b : Bool) → T a → T b → T (a && b)
+    both true true u v = tt
+
+limited-placed : (allowance : ℕ) (a : RowAnswer) → RowPlaced a → RowPlaced (limited allowance a)
+unfolding limited
+limited-placed allowance (accepted x m) p = by-if RowPlaced (leb m allowance) (λ _. tt) (λ _. tt)
+limited-placed allowance (refused e m) p = by-if RowPlaced (leb m allowance) (λ _. p) (λ _. tt)
+
+module _ (language standard flag : ℕ) (kinds words : List ℕ) where
+  structure-placed : (x : Nodes) (m : ℕ) (l : Lack) → RowPlaced (after-structure language standard flag kinds words x m l)
+  unfolding after-structure
+  structure-placed x m nothing = tt
+  structure-placed x m (lacks f) = tt
+
+  reading-placed : (x : Nodes) (m : ℕ) (s : Said) → RowPlaced (after-reading language standard flag kinds words x m s)
+  unfolding after-reading
+  reading-placed x m (holds n) = structure-placed x (m + n) (missing-feature language standard kinds words)
+  reading-placed x m (fails n) = tt
+
+  fault-placed : (e : Fault) → FaultNumbered e → Between 10 40 (refusal-of e)
+  unfolding refusal-of
+  fault-placed (refusal e) p = wider 20 22 10 40 (omega arith) (omega arith) e p
+  fault-placed no-list p = tt
+
+  by-whole : (b : Bool) (a : RowAnswer) (m : ℕ) → RowPlaced a → RowPlaced (elim b as (λ _. RowAnswer) [ true ↦ a | false ↦ refused UnexpectedTokenAfterTypeName m ])
+  by-whole true a m p = p
+  by-whole false a m p = tt
+
+  prescan-placed : (g : Got) → Read.Numbered g → RowPlaced (after-prescan language standard flag kinds words g)
+  unfolding after-prescan
+  prescan-placed (bad e m) p = fault-placed e p
+  prescan-placed (got x at half m) p =
+      by-whole (whole-row language standard flag kinds words at half) (after-reading language standard flag kinds words x m (structure-of language standard flag kinds words x)) m
+      (reading-placed x m (structure-of language standard flag kinds words x))
+
+  from-placed : (r : Scanned) → Numbered.Numbered r → RowPlaced (from-prescan language standard flag kinds words r)
+  unfolding from-prescan
+  from-placed (Prescan.refused e) p = wider 10 18 10 40 (omega arith) (omega arith) e p
+  from-placed (passed s) p = prescan-placed (reading (eqb language Cpp) kinds) (reading-numbered (eqb language Cpp) kinds)
+
+  row-placed : (allowance : ℕ) → RowPlaced (answerOf language standard flag kinds words allowance)
+  unfolding answerOf unlimited
+  row-placed allowance =
+      limited-placed allowance (from-prescan language standard flag kinds words (prescan language kinds)) (from-placed (prescan language kinds) (prescan-numbered language kinds))
+
+of-row-placed : (h : Head) (room : ℕ) (ts : List RowToken) → Placed (of-row h room ts)
+unfolding of-row
+of-row-placed h room ts =
+    by-if Placed (ltb room (numbers-per-token * length ts)) (λ _. tt) λ _.
+    row-placed (h .language) (h .standard) (h .flag) (kinds-of ts) (words-of ts) (h .allowance)
+
+of-records-placed : (h : Head) (room : ℕ) (r : Row) → RowNumbered r → Placed (of-records h room r)
+unfolding of-records
+of-records-placed h room (Records.refused e) p = wider 4 5 1 6 (omega arith) (omega arith) e p
+of-records-placed h room (row ts) p = of-row-placed h room ts
+
+of-head-placed : (file : List ℕ) (room : ℕ) (h : FileHead) → HeadNumbered h → Placed (of-head file room h)
+unfolding of-head
+of-head-placed file room (FileHead.Refused e) p = wider 1 3 1 6 (omega arith) (omega arith) e p
+of-head-placed file room (FileHead.Formed h) p = of-records-placed h room (records-from format file most-tokens head-length) (records-numbered format file most-tokens head-length)
+
+outcome-placed : (file : List ℕ) (room : ℕ) → Placed (outcome file room)
+unfolding outcome
+outcome-placed file room = of-head-placed file room (head format file) (head-numbered format file)
+
+-- ---- the buffer of a refused answer
+
+-- "Refusals 1 to 6 don't touch the tree buffer; all others fill it with zeros."
+pub record RefusedBuffer (before after : List ℕ) (e : TypeNameError) : Type 0 where
+  pub kept : refusalOf e .number ≤ 6 → after ≡ before
+  pub zeroed : 6 < refusalOf e .number → after ≡ replicate (length before) 0
+
+low : (e : TypeNameError) → Between 1 6 e → refusalOf e .number ≤ 6
+low e t = leb→le (refusalOf e .number) 6 (and-yes (leb 1 (refusalOf e .number)) (leb (refusalOf e .number) 6) t .1)
+
+high : (e : TypeNameError) → Between 10 40 e → 6 < refusalOf e .number
+high e t = omega (arith, leb→le 10 (refusalOf e .number) (and-yes (leb 10 (refusalOf e .number)) (leb (refusalOf e .number) 40) t .0))
+
+-- The refusal's number in an answer, 0 if it is accepted.
+abbrev number-in : Answer → ℕ
+number-in (Accepted nodes m) = 0
+number-in (Refused e m) = refusalOf e .number
+
+abbrev is-refused : Answer → ℕ
+is-refused (Accepted nodes m) = 0
+is-refused (Refused e m) = 1
+
+none-less : (n : ℕ) → replicate {A = ℕ} (n - 0) 0 ≡ replicate n 0
+none-less n =
+    let same : n - 0 ≡ n = omega arith in
+    ap (λ (k : ℕ). replicate {A = ℕ} k 0) same
+
+buffer-of : (before : List ℕ) (o : Outcome) → Placed o → (e : TypeNameError) (m : ℕ) → answer-in o ≡ Refused e m → RefusedBuffer before (buffer-in before o) e
+unfolding answer-in buffer-in filled
+buffer-of before (untouched e′) p e m q =
+    let same : refusalOf e′ .number ≡ refusalOf e .number = ap number-in q in
+    record { kept = λ _. refl; zeroed = λ h. absurd (omega (arith, same, low e′ p, h)) }
+buffer-of before (read (accepted x n)) p e m q =
+    let clash : _≡_ {A = ℕ} 0 1 = ap is-refused q in
+    absurd (omega (arith, clash))
+buffer-of before (read (refused e′ n)) p e m q =
+    let same : refusalOf e′ .number ≡ refusalOf e .number = ap number-in q in
+    record { kept = λ h. absurd (omega (arith, same, high e′ p, h)); zeroed = λ _. none-less (length before) }
+
+pub refused-buffer : (file before : List ℕ) (e : TypeNameError) (m : ℕ) → answer file (length before) ≡ Refused e m → RefusedBuffer before (final-buffer file before) e
+unfolding answer final-buffer
+refused-buffer file before e m q = buffer-of before (outcome file (length before)) (outcome-placed file (length before)) e m q

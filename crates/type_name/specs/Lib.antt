@@ -1,0 +1,6 @@
+pub mod Answers
+pub mod Promises
+pub mod Lines
+pub mod StarredRows
+pub mod Laws
+pub mod Examples

@@ -1,0 +1,111 @@
+-- The three demands, clause by clause. `file` is the file handed in, `before` what the tree buffer held at entry, `a` the answer, `after` what the
+-- buffer holds at exit. The entry's contract cites these by name.
+-- Assumes nothing.
+use Prim.Native.Nat.{ℕ, _*_, _≤_, _<_}
+use mathlib.Core.Path.{_≡_}
+use mathlib.Core.Logic.{_↔_, _⊎_}
+use mathlib.Core.List.{List, [], _∷_, map, List·Memᴰ}
+use lib.ListN.{length, take, drop}
+use Rattle.rows.specs.Kinds.{LeftParen, LeftBracket, ShiftRight}
+use Rattle.rows.specs.Format.{format, head-length, most-tokens}
+use Rattle.rows.specs.Records.{RowToken, row, head, records-from, kinds-of}
+use Rattle.rows.specs.declared.answer.Answer.{Answer}
+use Rattle.rows.specs.declared.answer.Answer.the-variants.{Accepted, Refused}
+use Rattle.rows.specs.declared.head.Head.{Head}
+use Rattle.rows.specs.declared.head.FileHead.the-variants.{Formed}
+use Rattle.prescan.specs.Matcher.{Pair, Paired}
+use Rattle.reader.specs.Nodes.{Nodes, G-node, B-node, number, count, records}
+use Rattle.reader.specs.Reading.{MAX-NESTING-DEPTH}
+use Rattle.reader.specs.Written.{Token, written, halved, angles, without-angles}
+use Rattle.reader.specs.Standing.{depth, tokens-of, numbers-of, kind-of, token-of, Below}
+use Rattle.type_name.specs.Answers.{accepted, outcome, read, answer, filled, final-buffer, numbers-per-token}
+
+-- ---- demands 1 and 2
+
+-- "A caller may hand in arbitrary bytes, any profile and any tree buffer, and gets a tree or one numbered refusal", the definition's: "tree or
+-- refusal .. is proved equal to a definition written from document 01".
+abbrev pub Answered : (file before : List ℕ) → Answer → Type 0
+Answered file before a = a ≡ answer file (length before)
+
+-- "with the buffer's contents fixed in each case".
+abbrev pub Buffered : (file before after : List ℕ) → Type 0
+Buffered file before after = after ≡ final-buffer file before
+
+-- ---- demand 3: "Whatever row is accepted, under whichever profile, flag and allowance and whatever the tree buffer held before"
+
+-- The file was accepted, with this row, this tree in front of the buffer, and these steps.
+pub record AcceptedAs (file : List ℕ) (a : Answer) (after : List ℕ) (ts : List RowToken) (x : Nodes) (steps : ℕ) : Type 0 where
+  pub answered : a ≡ Accepted (count x) steps
+  pub row-read : records-from format file most-tokens head-length ≡ row ts
+  pub tree-held : take (length (records x)) after ≡ records x
+
+-- Every accepted file has such a row and tree, and "its tree is the one that demand 2's definition gives", zeros after it.
+pub record HasTree (file before : List ℕ) (a : Answer) (after : List ℕ) (steps : ℕ) : Type 0 where
+  pub tokens : List RowToken
+  pub tree : Nodes
+  pub accepted-as : AcceptedAs file a after tokens tree steps
+  pub defined : outcome file (length before) ≡ read (accepted tree steps)
+  pub whole : after ≡ filled (length before) (records tree)
+
+abbrev pub TreeDefined : (file before : List ℕ) → Answer → (after : List ℕ) → Type 0
+TreeDefined file before a after = (nodes steps : ℕ) → a ≡ Accepted nodes steps → HasTree file before a after steps
+
+-- "and nests at most 64 deep".
+abbrev pub Nested : (file : List ℕ) → Answer → (after : List ℕ) → Type 0
+Nested file a after = (ts : List RowToken) (x : Nodes) (steps : ℕ) → AcceptedAs file a after ts x steps → depth x ≤ MAX-NESTING-DEPTH
+
+-- Node n of a list of node records is a G or a B.
+abbrev pub IsGroup : (records : List ℕ) (n : ℕ) → Type 0
+IsGroup rs n = (kind-of rs n ≡ number G-node) ⊎ (kind-of rs n ≡ number B-node)
+
+pub record BracketsOf (kinds : List ℕ) (x : Nodes) : Type 0 where
+  -- "document 01's plain matcher pairs all its brackets"
+  pub pairs : List Pair
+  pub paired : Paired kinds pairs
+  -- "every `(` has exactly one G, every `[` exactly one B, no other G or B stands in the tree"
+  pub one-G-each : tokens-of G-node x ≡ numbers-of LeftParen 0 kinds
+  pub one-B-each : tokens-of B-node x ≡ numbers-of LeftBracket 0 kinds
+  -- every G and B has its opener's partner
+  pub partner : (n : ℕ) → n < count x → IsGroup (records x) n → (p : Pair) × List·Memᴰ p pairs × (p .opener ≡ token-of (records x) n)
+  -- "and below each stand exactly the nodes whose token lies between its opener and that opener's partner"
+  pub below-each : (n m : ℕ) → n < count x → m < count x → IsGroup (records x) n → (p : Pair) → List·Memᴰ p pairs → p .opener ≡ token-of (records x) n
+      → Below (records x) n m ↔ ((p .opener < token-of (records x) m) × (token-of (records x) m < p .closer))
+
+abbrev pub BracketsPaired : (file : List ℕ) → Answer → (after : List ℕ) → Type 0
+BracketsPaired file a after = (ts : List RowToken) (x : Nodes) (steps : ℕ) → AcceptedAs file a after ts x steps → BracketsOf (kinds-of ts) x
+
+-- A row as the write-out sees it.
+abbrev pub tokens-in : List RowToken → List Token
+tokens-in ts = map (λ (t : RowToken). record { kind = t .kind; word = t .word }) ts
+
+-- "The tree written out and the row, each `>>` in both taken as two `>`,
+pub record WrittenAs (row : List Token) (kinds : List ℕ) (x : Nodes) : Type 0 where
+  -- have `>` equally often,
+  pub angles-as-often : angles (halved (written row x)) ≡ angles (halved row)
+  -- are the same list once every `>` is left out,
+  pub else-same : without-angles (halved (written row x)) ≡ without-angles (halved row)
+  -- and are the same list throughout if the row has no `>>`."
+  pub same-throughout : numbers-of ShiftRight 0 kinds ≡ [] → written row x ≡ row
+
+abbrev pub WrittenOut : (file : List ℕ) → Answer → (after : List ℕ) → Type 0
+WrittenOut file a after = (ts : List RowToken) (x : Nodes) (steps : ℕ) → AcceptedAs file a after ts x steps → WrittenAs (tokens-in ts) (kinds-of ts) x
+
+-- Another file: the same row and "the same flag", "every allowance not below those steps, together with the same or any later standard of that
+-- language"; and a buffer that is long enough.
+pub record NotBelow (file file′ before′ : List ℕ) (ts : List RowToken) (steps : ℕ) : Type 0 where
+  pub head-of : Head
+  pub head-of′ : Head
+  pub formed : head format file ≡ Formed head-of
+  pub formed′ : head format file′ ≡ Formed head-of′
+  pub same-language : head-of′ .language ≡ head-of .language
+  pub same-or-later : head-of .standard ≤ head-of′ .standard
+  pub same-flag : head-of′ .flag ≡ head-of .flag
+  pub same-records : drop head-length file′ ≡ drop head-length file
+  pub enough : steps ≤ head-of′ .allowance
+  pub room : numbers-per-token * length ts ≤ length before′
+
+-- "With the same flag the same tree, node count and steps come back".
+abbrev pub Stable : (file : List ℕ) → Answer → (after : List ℕ) → Type 0
+Stable file a after =
+    (ts : List RowToken) (x : Nodes) (steps : ℕ) → AcceptedAs file a after ts x steps → (file′ before′ : List ℕ) → NotBelow file file′ before′ ts steps
+    → (answer file′ (length before′) ≡ Accepted (count x) steps) × (final-buffer file′ before′ ≡ filled (length before′) (records x))
