@@ -5,3 +5,14 @@ pub mod Bounds
 pub mod Fixed
 pub mod Refusals
 pub mod WrittenOut
+pub mod Sums
+pub mod NodeNumbers
+pub mod Strays
+pub mod Brackets
+pub mod Partner
+pub mod Openers
+pub mod Groups
+pub mod Loops
+pub mod Steps
+pub mod Allowance
+pub mod Injective

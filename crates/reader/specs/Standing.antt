@@ -1,6 +1,8 @@
 -- How deep a tree nests, and where its nodes stand: document 01, "Node record", its last sentences, and demand 3.
 -- Assumes nothing.
 use Prim.Native.Nat.{ℕ, suc, _+_, _*_, _<_, max}
+use mathlib.Core.Path.{_≡_}
+use mathlib.Core.Logic.{_⊎_}
 use mathlib.Core.Bool.{Bool, true, false}
 use mathlib.Core.List.{List, [], _∷_, _++_}
 use lib.ListN.{getD}
@@ -51,3 +53,7 @@ extent-of records n = getD records (node-width * n + 2) 0
 -- Node m stands **below** node n: "Below a node stands its subtree without the node itself."
 abbrev pub Below : (records : List ℕ) (n m : ℕ) → Type 0
 Below records n m = (n < m) × (m < n + extent-of records n)
+
+-- Node n is a G or a B.
+abbrev pub IsGroup : (records : List ℕ) (n : ℕ) → Type 0
+IsGroup records n = (kind-of records n ≡ number G-node) ⊎ (kind-of records n ≡ number B-node)

@@ -3,7 +3,7 @@
 -- Assumes nothing.
 use Prim.Native.Nat.{ℕ, _*_, _≤_, _<_}
 use mathlib.Core.Path.{_≡_}
-use mathlib.Core.Logic.{_↔_, _⊎_}
+use mathlib.Core.Logic.{_↔_}
 use mathlib.Core.List.{List, [], _∷_, map, List·Memᴰ}
 use lib.ListN.{length, take, drop}
 use Rattle.rows.specs.Kinds.{LeftParen, LeftBracket, ShiftRight}
@@ -14,10 +14,10 @@ use Rattle.rows.specs.declared.answer.Answer.the-variants.{Accepted, Refused}
 use Rattle.rows.specs.declared.head.Head.{Head}
 use Rattle.rows.specs.declared.head.FileHead.the-variants.{Formed}
 use Rattle.prescan.specs.Matcher.{Pair, Paired}
-use Rattle.reader.specs.Nodes.{Nodes, G-node, B-node, number, count, records}
+use Rattle.reader.specs.Nodes.{Nodes, G-node, B-node, count, records}
 use Rattle.reader.specs.Reading.{MAX-NESTING-DEPTH}
 use Rattle.reader.specs.Written.{Token, written, halved, angles, without-angles}
-use Rattle.reader.specs.Standing.{depth, tokens-of, numbers-of, kind-of, token-of, Below}
+use Rattle.reader.specs.Standing.{depth, tokens-of, numbers-of, token-of, IsGroup, Below}
 use Rattle.type_name.specs.Answers.{accepted, outcome, read, answer, filled, final-buffer, numbers-per-token}
 
 -- ---- demands 1 and 2
@@ -53,10 +53,6 @@ TreeDefined file before a after = (nodes steps : ℕ) → a ≡ Accepted nodes s
 -- "and nests at most 64 deep".
 abbrev pub Nested : (file : List ℕ) → Answer → (after : List ℕ) → Type 0
 Nested file a after = (ts : List RowToken) (x : Nodes) (steps : ℕ) → AcceptedAs file a after ts x steps → depth x ≤ MAX-NESTING-DEPTH
-
--- Node n of a list of node records is a G or a B.
-abbrev pub IsGroup : (records : List ℕ) (n : ℕ) → Type 0
-IsGroup rs n = (kind-of rs n ≡ number G-node) ⊎ (kind-of rs n ≡ number B-node)
 
 pub record BracketsOf (kinds : List ℕ) (x : Nodes) : Type 0 where
   -- "document 01's plain matcher pairs all its brackets"

@@ -1,7 +1,7 @@
 -- Where a reading ends, how deep and how large its tree is, and that nothing is left over, so that refusal 23 never comes.
 -- Assumes nothing.
 use Prim.Native.Nat.{ℕ, suc, _+_, _*_, _≤_, _<_}
-use mathlib.Core.Path.{_≡_, refl}
+use mathlib.Core.Path.{_≡_, refl, sym, _∙_}
 use mathlib.Core.Bool.{Bool, false}
 use mathlib.Core.List.{List}
 use native.Mathlib.Omega.{arith}
@@ -12,9 +12,9 @@ use Rattle.reader.specs.Nodes.{NodeKind, Nodes, count}
 use Rattle.reader.specs.Reading.{Level, top, round, square, argument, list, got, kindAt, MAX-NESTING-DEPTH, reading}
 use Rattle.reader.specs.Standing.{deeper, depth}
 use Rattle.reader.specs.Laws.Tokens.{inside, KindsKnown, past-end}
-use Rattle.reader.specs.Laws.Derived.{Opens, parens, brackets, nodal, Closes, by-half, by-one, by-two, Read, end-row, end-group, end-argument, a-token, a-group, a-list, last, more, derived}
+use Rattle.reader.specs.Laws.Derived.{Opens, parens, brackets, opener-kind, closer-kind, nodal, Closes, by-half, by-one, by-two, Read, end-row, end-group, end-argument, a-token, a-group, a-list, last, more, derived}
 
--- One for a list: the node of its first argument, and the list of which half a `>>` may be left.
+-- One at a list, none elsewhere: for the size it is the node of an argument, for the half of a `>>` the list itself, for the fuel one turn more.
 abbrev pub for-list : Level → ℕ
 for-list top = 0
 for-list round = 0
@@ -40,6 +40,18 @@ pub group-for-list : {k : NodeKind} {v : Level} {o c : ℕ} → Opens k v o c �
 group-for-list parens = refl
 group-for-list brackets = refl
 
+-- One at a group: the closer that it takes.
+abbrev pub closer : Level → ℕ
+closer top = 0
+closer round = 1
+closer square = 1
+closer argument = 0
+closer list = 0
+
+pub group-closer : {k : NodeKind} {v : Level} {o c : ℕ} → Opens k v o c → closer v ≡ 1
+group-closer parens = refl
+group-closer brackets = refl
+
 group-deeper : {k : NodeKind} {v : Level} {o c : ℕ} → Opens k v o c → (d : ℕ) → deeper k d ≡ suc d
 unfolding deeper
 group-deeper parens d = refl
@@ -47,30 +59,33 @@ group-deeper brackets d = refl
 
 module _ (row : List ℕ) where
   pub opener-inside : {k : NodeKind} {v : Level} {o c : ℕ} → Opens k v o c → (a : ℕ) → kindAt row a ≡ o → a < length row
-  opener-inside parens a e = inside row a (omega arith)
-  opener-inside brackets a e = inside row a (omega arith)
-
-  closer-inside : {k : NodeKind} {v : Level} {o c : ℕ} → Opens k v o c → (a : ℕ) → kindAt row a ≡ c → a < length row
-  closer-inside parens a e = inside row a (omega arith)
-  closer-inside brackets a e = inside row a (omega arith)
+  opener-inside op a e = inside row a (λ u. opener-kind op (sym e ∙ u))
 
   -- ---- where a reading ends
 
-  closes-end : {d a a′ : ℕ} {h h′ : Bool} → Closes row d a h a′ h′ → (a ≤ a′) × (a ≤ length row → a′ ≤ length row)
-  closes-end by-half = omega arith
-  closes-end {a = a} (by-one e) = let u : a < length row = inside row a (omega arith) in omega arith
-  closes-end {a = a} (by-two e f) = let u : a < length row = inside row a (omega arith) in omega arith
+  pub closes-forwards : {d a a′ : ℕ} {h h′ : Bool} → Closes row d a h a′ h′ → a ≤ a′
+  closes-forwards by-half = omega arith
+  closes-forwards (by-one e) = omega arith
+  closes-forwards (by-two e two) = omega arith
 
-  -- A reading ends at its start or after it.
+  closes-within : {d a a′ : ℕ} {h h′ : Bool} → Closes row d a h a′ h′ → a ≤ length row → a′ ≤ length row
+  closes-within by-half s = s
+  closes-within {a = a} (by-one e) s = inside row a (omega arith)
+  closes-within {a = a} (by-two e two) s = inside row a (omega arith)
+
+  -- A reading ends at its start or after it, a group behind its closer.
+  pub spans : {l : Level} {d n a a′ : ℕ} {h h′ : Bool} {x : Nodes} → Read row l d n a h x a′ h′ → a + closer l ≤ a′
+  spans (end-row e) = omega arith
+  spans (end-group op e) = omega (arith, group-closer op)
+  spans (end-argument s) = omega arith
+  spans (a-token t p r) = omega (arith, spans r)
+  spans (a-group t lim op e r₁ r) = omega (arith, spans r₁, spans r)
+  spans (a-list t lim e r₁ r) = omega (arith, spans r₁, spans r)
+  spans (last r c) = omega (arith, spans r, closes-forwards c)
+  spans (more r e r₁) = omega (arith, spans r, spans r₁)
+
   pub forwards : {l : Level} {d n a a′ : ℕ} {h h′ : Bool} {x : Nodes} → Read row l d n a h x a′ h′ → a ≤ a′
-  forwards (end-row e) = omega arith
-  forwards (end-group op e) = omega arith
-  forwards (end-argument s) = omega arith
-  forwards (a-token t p r) = omega (arith, forwards r)
-  forwards (a-group t lim op e r₁ r) = omega (arith, forwards r₁, forwards r)
-  forwards (a-list t lim e r₁ r) = omega (arith, forwards r₁, forwards r)
-  forwards (last r c) = omega (arith, forwards r, closes-end c .0)
-  forwards (more r e r₁) = omega (arith, forwards r, forwards r₁)
+  forwards r = omega (arith, spans r)
 
   -- ---- nesting
 
@@ -86,6 +101,7 @@ module _ (row : List ℕ) where
   nests (more r e r₁) s = omega (arith, nests r s, nests r₁ s)
 
   -- ---- size: at most two nodes a token, and one for a list
+
   pub sized : {l : Level} {d n a a′ : ℕ} {h h′ : Bool} {x : Nodes} → Read row l d n a h x a′ h′ → count x + 2 * a ≤ 2 * a′ + for-list l
   unfolding count
   sized (end-row e) = omega arith
@@ -94,13 +110,13 @@ module _ (row : List ℕ) where
   sized (a-token t p r) = omega (arith, sized r)
   sized (a-group t lim op e r₁ r) = omega (arith, sized r₁, sized r, group-for-list op)
   sized (a-list t lim e r₁ r) = omega (arith, sized r₁, sized r)
-  sized (last r c) = omega (arith, sized r, closes-end c .0)
+  sized (last r c) = omega (arith, sized r, closes-forwards c)
   sized (more r e r₁) = omega (arith, sized r, sized r₁)
 
   -- ---- half a `>>`
 
   -- Where no list is open around it, a reading that begins with no half leaves none: a list leaves one only if another is open.
-  pub no-half : {l : Level} {d n a a′ : ℕ} {h h′ : Bool} {x : Nodes} → Read row l d n a h x a′ h′ → d ≤ for-list l → h ≡ false → h′ ≡ false
+  no-half : {l : Level} {d n a a′ : ℕ} {h h′ : Bool} {x : Nodes} → Read row l d n a h x a′ h′ → d ≤ for-list l → h ≡ false → h′ ≡ false
   no-half (end-row e) s q = q
   no-half (end-group op e) s q = q
   no-half (end-argument s₁) s q = q
@@ -113,7 +129,7 @@ module _ (row : List ℕ) where
   no-half (more r e r₁) s q = no-half r₁ s refl
 
   -- The top level ends at the end of the row.
-  pub top-ends : {d n a a′ : ℕ} {h h′ : Bool} {x : Nodes} → Read row top d n a h x a′ h′ → kindAt row a′ ≡ NoToken
+  top-ends : {d n a a′ : ℕ} {h h′ : Bool} {x : Nodes} → Read row top d n a h x a′ h′ → kindAt row a′ ≡ NoToken
   top-ends (end-row e) = e
   top-ends (a-token t p r) = top-ends r
   top-ends (a-group t lim op e r₁ r) = top-ends r
@@ -122,29 +138,29 @@ module _ (row : List ℕ) where
   -- A reading that begins in the row, or at its end, ends so.
   pub within : {l : Level} {d n a a′ : ℕ} {h h′ : Bool} {x : Nodes} → Read row l d n a h x a′ h′ → a ≤ length row → a′ ≤ length row
   within (end-row e) s = s
-  within (end-group {a = a} op e) s = closer-inside op a e
+  within (end-group {a = a} op e) s = inside row a (λ u. closer-kind op (sym e ∙ u))
   within (end-argument s₁) s = s
   within (a-token {a = a} t p r) s = within r (inside row a (p .inside))
   within (a-group {a = a} t lim op e r₁ r) s = within r (within r₁ (opener-inside op a e))
   within (a-list {a = a} t lim e r₁ r) s = within r (within r₁ (inside row a (omega arith)))
-  within (last r c) s = closes-end c .1 (within r s)
+  within (last r c) s = closes-within c (within r s)
   within (more {a₁ = a₁} r e r₁) s = within r₁ (inside row a₁ (omega arith))
 
   -- ---- of the whole row
 
-  module _ (cpp : Bool) (x : Nodes) (a : ℕ) (h : Bool) (m : ℕ) (e : reading cpp row ≡ got x a h m) where
+  module _ (cpp : Bool) {x : Nodes} {a : ℕ} {h : Bool} {m : ℕ} (e : reading cpp row ≡ got x a h m) where
     -- Every token has been read, and no half a `>>` is left: refusal 23 never comes.
     pub nothing-left : KindsKnown row → (a ≡ length row) × (h ≡ false)
     nothing-left ks =
-        let r : Read row top 0 0 0 false x a h = derived row cpp x a h m e in
+        let r : Read row top 0 0 0 false x a h = derived row cpp e in
         (omega (arith, within r (omega arith), past-end row ks a (top-ends r)), no-half r (omega arith) refl)
 
     -- "Groups and lists nest to 64."
     pub nesting : depth x ≤ MAX-NESTING-DEPTH
-    nesting = omega (arith, nests (derived row cpp x a h m e) (omega arith))
+    nesting = omega (arith, nests (derived row cpp e) (omega arith))
 
     -- Two nodes a token.
     pub two-nodes : count x ≤ 2 * length row
     two-nodes =
-        let r : Read row top 0 0 0 false x a h = derived row cpp x a h m e in
+        let r : Read row top 0 0 0 false x a h = derived row cpp e in
         omega (arith, sized r, within r (omega arith))

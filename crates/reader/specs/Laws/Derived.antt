@@ -15,7 +15,7 @@ use Rattle.rows.specs.declared.answer.TypeNameError.the-variants.{NestingLimitE
 use Rattle.reader.specs.Nodes.{NodeKind, T-node, G-node, B-node, L-node, A-node, Nodes, none, node}
 use Rattle.reader.specs.Reading.{Level, top, round, square, argument, list, Fault, refusal, Next, ends, stops, token, group, angle, first, Got, got, bad, case, before, closes, starts, next, kindAt, MAX-NESTING-DEPTH, Reader, down, argued, go, turn, readF, read, reading}
 
--- A test that fails.
+-- What a test that fails tells.
 pub neqb : (m n : ℕ) → T (not (eqb m n)) → m ≢ n
 neqb m n t e = T-not (eqb m n) t (subst (λ (k : ℕ). T (eqb m k)) e (eqb-refl m))
 
@@ -25,6 +25,14 @@ neqb m n t e = T-not (eqb m n) t (subst (λ (k : ℕ). T (eqb m k)) e (eqb-refl 
 pub data Opens : NodeKind → Level → (opener closer : ℕ) → Type 0 where
   parens : Opens G-node round LeftParen RightParen
   brackets : Opens B-node square LeftBracket RightBracket
+
+pub opener-kind : {k : NodeKind} {v : Level} {o c : ℕ} → Opens k v o c → o ≢ NoToken
+opener-kind parens = omega arith
+opener-kind brackets = omega arith
+
+pub closer-kind : {k : NodeKind} {v : Level} {o c : ℕ} → Opens k v o c → c ≢ NoToken
+closer-kind parens = omega arith
+closer-kind brackets = omega arith
 
 -- A token of this kind can be a T.
 pub record Plain (k : ℕ) : Type 0 where
@@ -61,7 +69,8 @@ module _ (row : List ℕ) where
     end-argument : {d n a : ℕ} {h : Bool} → Stops d a h → Read argument d n a h none a h
     a-token : {l : Level} {d n a a′ : ℕ} {h h′ : Bool} {x : Nodes} → T (nodal l) → Plain (kindAt row a)
         → Read l d n (suc a) h x a′ h′ → Read l d n a h (node T-node a none x) a′ h′
-    a-group : {l v : Level} {k : NodeKind} {o c d n a a₁ a₂ : ℕ} {h h₁ h₂ : Bool} {b x : Nodes} → T (nodal l) → n < MAX-NESTING-DEPTH → Opens k v o c → kindAt row a ≡ o
+    a-group : {l v : Level} {k : NodeKind} {o c d n a a₁ a₂ : ℕ} {h h₁ h₂ : Bool} {b x : Nodes}
+        → T (nodal l) → n < MAX-NESTING-DEPTH → Opens k v o c → kindAt row a ≡ o
         → Read v d (suc n) (suc a) h b a₁ h₁ → Read l d n a₁ h₁ x a₂ h₂ → Read l d n a h (node k a b x) a₂ h₂
     a-list : {l : Level} {d n a a₁ a₂ : ℕ} {h h₁ h₂ : Bool} {b x : Nodes} → T (nodal l) → n < MAX-NESTING-DEPTH → kindAt row a ≡ Less
         → Read list (suc d) (suc n) (suc a) h b a₁ h₁ → Read l d n a₁ h₁ x a₂ h₂ → Read l d n a h (node L-node a b x) a₂ h₂
@@ -72,14 +81,14 @@ module _ (row : List ℕ) where
         → Read list d n a false (node A-node a (node k i y z) x) a₂ h₂
 
   -- An argument's reading stops where an argument ends.
-  pub stopped : {d n a a′ : ℕ} {h h′ : Bool} {x : Nodes} → Read argument d n a h x a′ h′ → Stops d a′ h′
+  stopped : {d n a a′ : ℕ} {h h′ : Bool} {x : Nodes} → Read argument d n a h x a′ h′ → Stops d a′ h′
   stopped (end-argument s) = s
   stopped (a-token t p r) = stopped r
   stopped (a-group t lim op e r₁ r) = stopped r
   stopped (a-list t lim e r₁ r) = stopped r
 
   -- No list is read from half a `>>` on.
-  pub begins : {d n a a′ : ℕ} {h′ : Bool} {x : Nodes} → Read list d n a true x a′ h′ → ⊥
+  begins : {d n a a′ : ℕ} {h′ : Bool} {x : Nodes} → Read list d n a true x a′ h′ → ⊥
   begins (a-token t p r) = t
   begins (a-group t lim op e r₁ r) = t
   begins (a-list t lim e r₁ r) = t
@@ -117,11 +126,11 @@ module _ (row : List ℕ) where
     starts-allowed : (l : Level) → T (nodal l) → (d n a : ℕ) (h word : Bool) → kindAt row a ≢ NoToken → Allowed l d n a h (starts cpp word (kindAt row a))
     unfolding starts
     starts-allowed l t d n a h word q =
-        by-if (Allowed l d n a h) (eqb (kindAt row a) LeftParen) (λ u. (t, LeftParen, RightParen, parens, eqb→eq _ _ u)) λ n8.
-        by-if (Allowed l d n a h) (eqb (kindAt row a) LeftBracket) (λ u. (t, LeftBracket, RightBracket, brackets, eqb→eq _ _ u)) λ n10.
+        by-if (Allowed l d n a h) (eqb (kindAt row a) LeftParen) (λ u. (t, LeftParen, RightParen, parens, eqb→eq _ _ u)) λ no-paren.
+        by-if (Allowed l d n a h) (eqb (kindAt row a) LeftBracket) (λ u. (t, LeftBracket, RightBracket, brackets, eqb→eq _ _ u)) λ no-bracket.
         by-if (Allowed l d n a h) (eqb (kindAt row a) Less && cpp && word)
-        (λ u. (t, eqb→eq _ _ (and-yes (eqb (kindAt row a) Less) cpp (and-yes (eqb (kindAt row a) Less && cpp) word u .0) .0))) λ n39.
-        (t, record { inside = q; no-paren = neqb _ _ n8; no-bracket = neqb _ _ n10 })
+        (λ u. (t, eqb→eq _ _ (and-yes (eqb (kindAt row a) Less) cpp (and-yes (eqb (kindAt row a) Less && cpp) word u .0) .0))) λ _.
+        (t, record { inside = q; no-paren = neqb _ _ no-paren; no-bracket = neqb _ _ no-bracket })
 
     argument-stops : (d a : ℕ) (h : Bool) → T (closes d (kindAt row a) h || eqb (kindAt row a) Comma) → Stops d a h
     unfolding closes
@@ -131,7 +140,7 @@ module _ (row : List ℕ) where
           | inl u ↦
               elim (or-yes (eqb (kindAt row a) Greater) (eqb (kindAt row a) ShiftRight && leb 2 d) u) [
                 | inl v ↦ at-one (eqb→eq _ _ v)
-                | inr v ↦ at-two (eqb→eq _ _ (and-yes (eqb (kindAt row a) ShiftRight) (leb 2 d) v .0)) (leb→le 2 d (and-yes (eqb (kindAt row a) ShiftRight) (leb 2 d) v .1))
+                | inr v ↦ let both = and-yes (eqb (kindAt row a) ShiftRight) (leb 2 d) v in at-two (eqb→eq _ _ (both .0)) (leb→le 2 d (both .1))
               ]
           | inr u ↦ at-comma (eqb→eq _ _ u)
         ]
@@ -199,11 +208,13 @@ module _ (row : List ℕ) where
         go-sound (token w) p = before-sound T-node a none 1 (read l d n w (suc a) h) (ok l d n w (suc a) h) (λ x a′ h′ r. a-token (p .0) (p .1) r)
         go-sound (group k v) p =
             by-down (Sound l d n a h) (ltb n MAX-NESTING-DEPTH) v d (suc n) (suc a) h
-            _ (λ b a₁ h₁ m lim r₁. before-sound k a b (suc m) (read l d n false a₁ h₁) (ok l d n false a₁ h₁) (λ x a′ h′ r. a-group (p .0) (ltb→lt n MAX-NESTING-DEPTH lim) (p .3) (p .4) r₁ r))
+            _ (λ b a₁ h₁ m lim r₁. before-sound k a b (suc m) (read l d n false a₁ h₁) (ok l d n false a₁ h₁)
+            (λ x a′ h′ r. a-group (p .0) (ltb→lt n MAX-NESTING-DEPTH lim) (p .3) (p .4) r₁ r))
             _ (λ e m. tt)
         go-sound angle p =
             by-down (Sound l d n a h) (ltb n MAX-NESTING-DEPTH) list (suc d) (suc n) (suc a) h
-            _ (λ b a₁ h₁ m lim r₁. before-sound L-node a b (suc m) (read l d n false a₁ h₁) (ok l d n false a₁ h₁) (λ x a′ h′ r. a-list (p .0) (ltb→lt n MAX-NESTING-DEPTH lim) (p .1) r₁ r))
+            _ (λ b a₁ h₁ m lim r₁. before-sound L-node a b (suc m) (read l d n false a₁ h₁) (ok l d n false a₁ h₁)
+            (λ x a′ h′ r. a-list (p .0) (ltb→lt n MAX-NESTING-DEPTH lim) (p .1) r₁ r))
             _ (λ e m. before-sound T-node a none (suc m) (read l d n false (suc a) h) (ok l d n false (suc a) h) (λ x a′ h′ r. a-token (p .0) (omega arith) r))
         go-sound first p =
             rw (p .0, p .1)
@@ -220,6 +231,13 @@ module _ (row : List ℕ) where
     readF-sound zero l d n w a h = tt
     readF-sound (suc f) l d n w a h = turn-sound (readF cpp row f) (readF-sound f) l d n w a h
 
-    pub derived : (x : Nodes) (a : ℕ) (h : Bool) (m : ℕ) → reading cpp row ≡ got x a h m → Read top 0 0 0 false x a h
-    unfolding reading read
-    derived x a h m e = subst (Sound top 0 0 0 false) e (readF-sound (2 * length row + 2) top 0 0 false 0 false)
+    -- What is read at any level has a derivation,
+    pub read-derived : (l : Level) (d n : ℕ) (w : Bool) (a : ℕ) (h : Bool) {x : Nodes} {a′ : ℕ} {h′ : Bool} {m : ℕ} → read cpp row l d n w a h ≡ got x a′ h′ m
+        → Read l d n a h x a′ h′
+    unfolding read
+    read-derived l d n w a h e = subst (Sound l d n a h) e (readF-sound (2 * length row + 2) l d n w a h)
+
+    -- and so has the whole row.
+    pub derived : {x : Nodes} {a : ℕ} {h : Bool} {m : ℕ} → reading cpp row ≡ got x a h m → Read top 0 0 0 false x a h
+    unfolding reading
+    derived e = read-derived top 0 0 false 0 false e

@@ -27,6 +27,7 @@ module _ (cpp : Bool) (row : List ℕ) where
     down-same true l d n a h en = same l d n false a h en
     down-same false l d n a h en = refl
 
+    -- Two ways on from results that are the same.
     case-same : {l : Level} {d n a : ℕ} {h : Bool} (g g′ : Got) → g ≡ g′ → Sound row l d n a h g
         → (f f₂ : Nodes → ℕ → Bool → ℕ → Got) → ((x : Nodes) (a′ : ℕ) (h′ : Bool) (m : ℕ) → Read row l d n a h x a′ h′ → f x a′ h′ m ≡ f₂ x a′ h′ m)
         → (k k₂ : Fault → ℕ → Got) → ((e : Fault) (m : ℕ) → k e m ≡ k₂ e m) → case g f k ≡ case g′ f₂ k₂
@@ -43,6 +44,7 @@ module _ (cpp : Bool) (row : List ℕ) where
     argued-same l d n a (node k i b y) false a₁ false m f = refl
 
     module _ (l : Level) (d n a : ℕ) (h : Bool) (en : Enough (suc fuel) l a) where
+      -- The rest of the level, from a later token.
       on-same : T (nodal l) → (w : Bool) (a₁ : ℕ) (h₁ : Bool) → a < a₁ → a₁ ≤ length row → r l d n w a₁ h₁ ≡ s l d n w a₁ h₁
       on-same t w a₁ h₁ p q = same l d n w a₁ h₁ (omega arith)
 
@@ -53,12 +55,14 @@ module _ (cpp : Bool) (row : List ℕ) where
       go-same (token w) z = ap (before T-node a none 1) (on-same (z .0) w (suc a) h (omega arith) (inside row a (z .1 .inside)))
       go-same (group k v) z =
           let i : a < length row = opener-inside row (z .3) a (z .4) in
-          case-same _ _ (down-same (ltb n MAX-NESTING-DEPTH) v d (suc n) (suc a) h (omega (arith, group-for-list (z .3), nodal-for-list l (z .0)))) (down-sound row cpp r ok (ltb n MAX-NESTING-DEPTH) v d (suc n) (suc a) h)
+          case-same _ _ (down-same (ltb n MAX-NESTING-DEPTH) v d (suc n) (suc a) h (omega (arith, group-for-list (z .3), nodal-for-list l (z .0))))
+          (down-sound row cpp r ok (ltb n MAX-NESTING-DEPTH) v d (suc n) (suc a) h)
           _ _ (λ b a₁ h₁ m rd. ap (before k a b (suc m)) (on-same (z .0) false a₁ h₁ (forwards row rd) (within row rd i)))
           _ _ (λ e m. refl)
       go-same angle z =
           let i : a < length row = inside row a (omega arith) in
-          case-same _ _ (down-same (ltb n MAX-NESTING-DEPTH) list (suc d) (suc n) (suc a) h (omega (arith, nodal-for-list l (z .0)))) (down-sound row cpp r ok (ltb n MAX-NESTING-DEPTH) list (suc d) (suc n) (suc a) h)
+          case-same _ _ (down-same (ltb n MAX-NESTING-DEPTH) list (suc d) (suc n) (suc a) h (omega (arith, nodal-for-list l (z .0))))
+          (down-sound row cpp r ok (ltb n MAX-NESTING-DEPTH) list (suc d) (suc n) (suc a) h)
           _ _ (λ b a₁ h₁ m rd. ap (before L-node a b (suc m)) (on-same (z .0) false a₁ h₁ (forwards row rd) (within row rd i)))
           _ _ (λ e m. ap (before T-node a none (suc m)) (on-same (z .0) false (suc a) h (omega arith) i))
       go-same first z =
@@ -72,15 +76,12 @@ module _ (cpp : Bool) (row : List ℕ) where
     unfolding turn
     turn-same l d n w a h en = go-same l d n a h en (next cpp l d w (kindAt row a) a h) (next-allowed row cpp l d n w a h)
 
-  pub no-fuel : (l : Level) (a : ℕ) → Enough 0 l a → ⊥
-  no-fuel l a en = omega arith
-
   -- Any two fuels that are enough give the same.
   enough : (f g : ℕ) (l : Level) (d n : ℕ) (w : Bool) (a : ℕ) (h : Bool) → Enough f l a → Enough g l a
       → readF cpp row f l d n w a h ≡ readF cpp row g l d n w a h
   unfolding readF
-  enough zero g l d n w a h p q = absurd (no-fuel l a p)
-  enough (suc f) zero l d n w a h p q = absurd (no-fuel l a q)
+  enough zero g l d n w a h p q = absurd (omega arith)
+  enough (suc f) zero l d n w a h p q = absurd (omega arith)
   enough (suc f) (suc g) l d n w a h p q =
       turn-same (readF cpp row f) (readF cpp row g) (readF-sound row cpp f) (min f g)
       (λ l d n w a h en. enough f g l d n w a h (omega arith) (omega arith))

@@ -15,14 +15,15 @@ use Rattle.reader.specs.Reading.{Level, top, round, square, argument, li
 use Rattle.reader.specs.Laws.Tokens.{inside}
 use Rattle.reader.specs.Laws.Derived.{Opens, parens, brackets, nodal, Read, Sound, Allowed, next-allowed, down-sound, readF-sound}
 use Rattle.reader.specs.Laws.Bounds.{nodal-for-list, group-for-list, opener-inside, forwards, within}
-use Rattle.reader.specs.Laws.Fixed.{Enough, no-fuel}
+use Rattle.reader.specs.Laws.Fixed.{Enough}
 
+-- The faults of a whole row: refusals 20, 21 and 22.
 pub data Refuses : Fault → Type 0 where
   too-deep : Refuses (refusal NestingLimitExceeded)
   not-closed : Refuses (refusal UnterminatedGroup)
   wrong-closer : Refuses (refusal MismatchedClosingDelimiter)
 
--- The levels that are no part of a list.
+-- The levels that are no part of a list: there a fault ends the reading.
 abbrev plainly : Level → Bool
 plainly top = true
 plainly round = true
@@ -34,10 +35,12 @@ opens-plainly : {k : NodeKind} {v : Level} {o c : ℕ} → Opens k v o c → T (
 opens-plainly parens = tt
 opens-plainly brackets = tt
 
+-- What is not read at such a level has one of these faults.
 abbrev Named : Level → Got → Type 0
 Named l (got x a h m) = Unit {0}
 Named l (bad e m) = T (plainly l) → Refuses e
 
+-- The same of what is to be done; and no argument begins there.
 abbrev Said : Level → Next → Type 0
 Said l (ends a) = Unit {0}
 Said l (stops e) = T (plainly l) → Refuses e
@@ -77,6 +80,7 @@ module _ (cpp : Bool) (row : List ℕ) where
       by-if (Said argument) (eqb (kindAt row a) NoToken) (λ _ t. absurd t) λ _. starts-said argument w (kindAt row a)
   next-said list d w a h = by-if (Said list) (closes d (kindAt row a) h) (λ _ t. absurd t) (λ _ t. t)
 
+  -- A turn, given what holds of the reading with one fuel less.
   module _ (r : Reader cpp row) (ok : (l : Level) (d n : ℕ) (w : Bool) (a : ℕ) (h : Bool) → Sound row l d n a h (r l d n w a h)) (fuel : ℕ)
       (ih : (l : Level) (d n : ℕ) (w : Bool) (a : ℕ) (h : Bool) → Enough cpp row fuel l a → Named l (r l d n w a h)) where
     down-named : (b : Bool) (l : Level) (d n a : ℕ) (h : Bool) → Enough cpp row fuel l a → Named l (down cpp row r b l d n a h)
@@ -102,13 +106,15 @@ module _ (cpp : Bool) (row : List ℕ) where
       go-named (token w) z s = named-before l T-node a none 1 (r l d n w (suc a) h) (rest (z .0) w (suc a) h (omega arith) (inside row a (z .1 .inside)))
       go-named (group k v) z s =
           let i : a < length row = opener-inside row (z .3) a (z .4) in
-          named-case (Named l) (down cpp row r (ltb n MAX-NESTING-DEPTH) v d (suc n) (suc a) h) (down-sound row cpp r ok (ltb n MAX-NESTING-DEPTH) v d (suc n) (suc a) h)
+          named-case (Named l) (down cpp row r (ltb n MAX-NESTING-DEPTH) v d (suc n) (suc a) h)
+          (down-sound row cpp r ok (ltb n MAX-NESTING-DEPTH) v d (suc n) (suc a) h)
           (down-named (ltb n MAX-NESTING-DEPTH) v d (suc n) (suc a) h (omega (arith, group-for-list (z .3), nodal-for-list l (z .0))))
           _ (λ b a₁ h₁ m rd. named-before l k a b (suc m) (r l d n false a₁ h₁) (rest (z .0) false a₁ h₁ (forwards row rd) (within row rd i)))
           _ (λ e m kn _. kn (opens-plainly (z .3)))
       go-named angle z s =
           let i : a < length row = inside row a (omega arith) in
-          named-case (Named l) (down cpp row r (ltb n MAX-NESTING-DEPTH) list (suc d) (suc n) (suc a) h) (down-sound row cpp r ok (ltb n MAX-NESTING-DEPTH) list (suc d) (suc n) (suc a) h)
+          named-case (Named l) (down cpp row r (ltb n MAX-NESTING-DEPTH) list (suc d) (suc n) (suc a) h)
+          (down-sound row cpp r ok (ltb n MAX-NESTING-DEPTH) list (suc d) (suc n) (suc a) h)
           (down-named (ltb n MAX-NESTING-DEPTH) list (suc d) (suc n) (suc a) h (omega (arith, nodal-for-list l (z .0))))
           _ (λ b a₁ h₁ m rd. named-before l L-node a b (suc m) (r l d n false a₁ h₁) (rest (z .0) false a₁ h₁ (forwards row rd) (within row rd i)))
           _ (λ e m kn. named-before l T-node a none (suc m) (r l d n false (suc a) h) (rest (z .0) false (suc a) h (omega arith) i))
@@ -120,12 +126,13 @@ module _ (cpp : Bool) (row : List ℕ) where
 
   named : (f : ℕ) (l : Level) (d n : ℕ) (w : Bool) (a : ℕ) (h : Bool) → Enough cpp row f l a → Named l (readF cpp row f l d n w a h)
   unfolding readF turn
-  named zero l d n w a h en = absurd (no-fuel cpp row l a en)
+  named zero l d n w a h en = absurd (omega arith)
   named (suc f) l d n w a h en =
       by-level l (turn cpp row (readF cpp row f) l d n w a h)
-      (λ t. go-named (readF cpp row f) (readF-sound row cpp f) f (named f) l t d n a h en (next cpp l d w (kindAt row a) a h) (next-allowed row cpp l d n w a h) (next-said l d w a h))
+      (λ t. go-named (readF cpp row f) (readF-sound row cpp f) f (named f) l t d n a h en (next cpp l d w (kindAt row a) a h)
+      (next-allowed row cpp l d n w a h) (next-said l d w a h))
 
-  -- The fault of a row that is not read.
-  pub refuses : (e : Fault) (m : ℕ) → reading cpp row ≡ bad e m → Refuses e
+  -- What the reading of a row refuses with.
+  pub refuses : {e : Fault} {m : ℕ} → reading cpp row ≡ bad e m → Refuses e
   unfolding reading read
-  refuses e m p = subst (Named top) p (named (2 * length row + 2) top 0 0 false 0 false (omega arith)) tt
+  refuses p = subst (Named top) p (named (2 * length row + 2) top 0 0 false 0 false (omega arith)) tt

@@ -17,10 +17,12 @@ abbrev pub KindsKnown : List ℕ → Type 0
 KindsKnown row = (i : ℕ) → i < length row → kindAt row i < NoToken
 
 module _ (row : List ℕ) where
+  -- What has a kind is a token of the row,
   pub inside : (a : ℕ) → kindAt row a ≢ NoToken → a < length row
   unfolding kindAt
   inside a q = elim (decLe (length row) a) [ yes h ↦ absurd (q (List·getD-eq-default row NoToken h)) | no h ↦ lt-of-not-le h ]
 
+  -- and every token has one.
   pub past-end : KindsKnown row → (a : ℕ) → kindAt row a ≡ NoToken → length row ≤ a
   past-end ks a e = elim (decLe (length row) a) [ yes h ↦ h | no h ↦ absurd (omega (arith, ks a (lt-of-not-le h))) ]
 

@@ -19,7 +19,9 @@ use Rattle.reader.specs.Standing.{numbers-of}
 use Rattle.reader.specs.Laws.Tokens.{KindsKnown, inside}
 use Rattle.reader.specs.Laws.Derived.{neqb, parens, brackets, Closes, by-half, by-one, by-two, Read, end-row, end-group, end-argument, a-token, a-group, a-list, last, more, derived}
 use Rattle.reader.specs.Laws.Bounds.{nothing-left}
+use Rattle.reader.specs.Laws.Sums.{sum, sum-append}
 
+-- What the reading is given of a row.
 abbrev pub kinds-in : List Token → List ℕ
 kinds-in row = map (λ (t : Token). t .kind) row
 
@@ -43,15 +45,6 @@ each-self : (l : List Token) → each (λ t. t ∷ []) l ≡ l
 unfolding each
 each-self [] = refl
 each-self (t ∷ l) = ap (λ (m : List Token). t ∷ m) (each-self l)
-
-unfoldable sum : (Token → ℕ) → List Token → ℕ
-sum w [] = 0
-sum w (t ∷ l) = w t + sum w l
-
-sum-append : (w : Token → ℕ) (l m : List Token) → sum w (l ++ m) ≡ sum w l + sum w m
-unfolding sum
-sum-append w [] m = omega arith
-sum-append w (t ∷ l) m = omega (arith, sum-append w l m)
 
 -- What is left of a token, and how often it has `>`, each `>>` taken as two `>`.
 others : Token → List Token
@@ -91,6 +84,7 @@ weight-sum (t ∷ l) = shifted (eqb (t .kind) ShiftRight) ∙ ap (λ (n : ℕ). 
 clash : {X : Type 0} {n : ℕ} {l : List ℕ} → n ∷ l ≡ [] → X
 clash e = let z : _≡_ {A = ℕ} 0 1 = cc in absurd (omega arith)
 
+-- A kind of which the row has no token.
 none-of : (k at : ℕ) (kinds : List ℕ) → numbers-of k at kinds ≡ [] → k ≢ NoToken → (i : ℕ) → kindAt kinds i ≢ k
 unfolding numbers-of kindAt
 none-of k at [] e q i u = q (sym u)
@@ -214,22 +208,23 @@ module _ (row : List Token) (worded : Worded row) where
 
   -- ---- of the whole row
 
-  module _ (known : KindsKnown K) (cpp : Bool) (x : Nodes) (a : ℕ) (h : Bool) (m : ℕ) (e : reading cpp K ≡ got x a h m) where
+  module _ (known : KindsKnown K) (cpp : Bool) {x : Nodes} {a : ℕ} {h : Bool} {m : ℕ} (e : reading cpp K ≡ got x a h m) where
     r : Read K top 0 0 0 false x a h
-    r = derived K cpp x a h m e
+    r = derived K cpp e
 
     at-end : drop a row ≡ []
     at-end =
-        let u : length row ≤ a = omega (arith, nothing-left K cpp x a h m e known .0, length-map row (λ (t : Token). t .kind)) in
+        let u : length row ≤ a = omega (arith, nothing-left K cpp e known .0, length-map row (λ (t : Token). t .kind)) in
         drop-of-length-le row u
 
-    each-same : (f : Token → List Token) → ((i : ℕ) → kindAt K i ≡ ShiftRight → (f (sign Greater) ≡ []) × (f (sign ShiftRight) ≡ [])) → each f (written row x) ≡ each f row
+    each-same : (f : Token → List Token) → ((i : ℕ) → kindAt K i ≡ ShiftRight → (f (sign Greater) ≡ []) × (f (sign ShiftRight) ≡ []))
+        → each f (written row x) ≡ each f row
     unfolding Says Fine ending each
     each-same f gone = sym (says f gone r (λ u. absurd (true≢false (sym u))) .1 ∙ rw at-end (append-nil _))
 
     weight-same : sum weight (written row x) ≡ sum weight row
     unfolding sum half-weight ending-weight weight angles halved
-    weight-same = omega (arith, rw at-end at (weighs weight refl r), ap (half-weight weight refl) (nothing-left K cpp x a h m e known .1))
+    weight-same = omega (arith, rw at-end at (weighs weight refl r), ap (half-weight weight refl) (nothing-left K cpp e known .1))
 
     -- They have `>` equally often,
     pub angles-as-often : angles (halved (written row x)) ≡ angles (halved row)
