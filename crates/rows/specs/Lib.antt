@@ -5,5 +5,6 @@ pub mod Words
 pub mod Refusals
 pub mod Format
 pub mod Records
+pub mod RowRead
 pub mod Laws
 pub mod Examples

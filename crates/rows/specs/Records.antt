@@ -109,6 +109,11 @@ module _ (f : Format) (file : List ℕ) where
   unfoldable pub found : (at : ℕ) → TokenRecord
   found at = if well-formed at then TokenRecord.Formed (kind-at at) (length-at at) else TokenRecord.Malformed
 
+  -- The word of the record at any byte offset, empty where none stands.
+  unfoldable pub word-in : (at : ℕ) → TokenRecord → List ℕ
+  word-in at TokenRecord.Malformed = []
+  word-in at (TokenRecord.Formed kind length) = word-at at
+
   unfoldable pub after-record : (at : ℕ) → TokenRecord → (ℕ → Row) → Row
   after-record at TokenRecord.Malformed rest = refused (InvalidRecord at)
   after-record at (TokenRecord.Formed kind length) rest = before-row (record { place = at; kind = kind; word = word-at at }) (rest (at + length))

@@ -1,8 +1,10 @@
 // The row module: what answers are made of, and the records of a file (document 01, "Head record" and "Token record").
 
-mod answer;
-mod bytes;
-mod head;
-mod kinds;
-mod languages;
-mod token;
+pub mod answer;
+pub mod bytes;
+pub mod head;
+pub mod kinds;
+pub mod languages;
+pub mod row;
+pub mod token;
+pub mod words;

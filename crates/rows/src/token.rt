@@ -1,7 +1,119 @@
 // Token records: document 01, "Token record".
 
+use crate::bytes::four_bytes;
+use crate::bytes::two_bytes;
+use crate::kinds::END;
+use crate::kinds::IDENTIFIER;
+ghost use mathlib.Core.Path.{_≡_};
+ghost use Prim.Native.Nat.{_+_, _≤_};
+ghost use lib.ListN.{length};
+ghost use Rattle.rows.specs.Format.{format};
+ghost use Rattle.rows.specs.Records.{found, in-range, kind-at, length-at, length-fits, word-fits, word-in};
+
+const AT_KIND: usize = 2;
+
+const AT_SPAN: usize = 4;
+
+const SPAN_BYTES: usize = 4;
+
+// The length without a word.
+pub const TOKEN_LENGTH: usize = 12;
+
+const LONGEST_WORD: usize = 255;
+
+const LEAST_WORD_BYTE: u8 = 33;
+
+const GREATEST_WORD_BYTE: u8 = 126;
+
 // What stands at a byte offset: a token record of this kind and length, or a malformed one.
 pub enum TokenRecord {
     Formed { kind: u8, length: usize },
     Malformed,
+}
+
+// Every byte may stand in a word.
+fn is_word(word: &[u8]) -> bool
+    ensures { λ r. ⌜ r ≡ in-range (now (word .entry)) ⌝ }
+{
+    let mut i = 0;
+    while i < word.len() {
+        if word[i] < LEAST_WORD_BYTE {
+            return false;
+        }
+        if GREATEST_WORD_BYTE < word[i] {
+            return false;
+        }
+        i += 1;
+    }
+    true
+}
+
+// The record at a byte offset has a word of 1 to 255 bytes that are in range; `size` is its length.
+fn word_fits(file: &[u8], at: usize, size: usize) -> bool
+    requires { ⌜ (at + 12 ≤ length (now file)) × (size ≡ length-at format (now file) at) ⌝ }
+    ensures { λ r. ⌜ r ≡ word-fits format (now (file .entry)) at ⌝ }
+{
+    if size <= TOKEN_LENGTH {
+        return false;
+    }
+    if TOKEN_LENGTH + LONGEST_WORD < size {
+        return false;
+    }
+    let end = at + size;
+    if file.len() < end {
+        return false;
+    }
+    let begin = at + TOKEN_LENGTH;
+    is_word(&file[begin..end])
+}
+
+// The record at a byte offset, of this kind and size, is as long as its kind asks.
+fn length_fits(file: &[u8], at: usize, kind: usize, size: usize) -> bool
+    requires { ⌜ (at + 12 ≤ length (now file)) × (kind ≡ kind-at format (now file) at) × (size ≡ length-at format (now file) at) ⌝ }
+    ensures { λ r. ⌜ r ≡ length-fits format (now (file .entry)) at ⌝ }
+{
+    if kind == (IDENTIFIER as usize) {
+        return word_fits(file, at, size);
+    }
+    size == TOKEN_LENGTH
+}
+
+// The token record at any byte offset.
+pub fn token_at(file: &[u8], at: usize) -> TokenRecord
+    ensures { λ r. ⌜ r ≡ found format (now (file .entry)) at ⌝ }
+{
+    if file.len() < TOKEN_LENGTH {
+        return TokenRecord::Malformed;
+    }
+    if file.len() - TOKEN_LENGTH < at {
+        return TokenRecord::Malformed;
+    }
+    let kind = two_bytes(file, at + AT_KIND);
+    if (END as usize) < kind {
+        return TokenRecord::Malformed;
+    }
+    if four_bytes(file, at + AT_SPAN + SPAN_BYTES) < four_bytes(file, at + AT_SPAN) {
+        return TokenRecord::Malformed;
+    }
+    let length = two_bytes(file, at);
+    if length_fits(file, at, kind, length) {
+        return TokenRecord::Formed {
+            kind: kind as u8,
+            length,
+        };
+    }
+    TokenRecord::Malformed
+}
+
+// The word of the token record at any byte offset, as that part of the caller's file; empty where no word stands.
+pub fn word(file: &[u8], place: usize) -> &[u8]
+    ensures { λ r. ⌜ now r ≡ word-in format (now (file .entry)) place (found format (now (file .entry)) place) ⌝ }
+{
+    let found = token_at(file, place);
+    let TokenRecord::Formed { kind: _, length } = found else {
+        return &file[..0];
+    };
+    let begin = place + TOKEN_LENGTH;
+    let end = place + length;
+    &file[begin..end]
 }

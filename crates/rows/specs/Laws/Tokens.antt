@@ -1,0 +1,167 @@
+-- Token records as code reads them: a word byte by byte, a record test by test.
+-- Assumes nothing.
+use Prim.Native.Nat.{ℕ, _+_, _-_, _≤_, _<_}
+use mathlib.Core.Path.{_≡_, refl, sym, ap, _∙_}
+use mathlib.Core.Bool.{Bool, true, false, _&&_}
+use mathlib.Core.List.{List, [], _∷_}
+use native.Mathlib.Omega.{arith}
+use native.Mathlib.Numerals.{add-one}
+use borrow.Author.Tests.{lt-ltb, le-ltb, le-leb, lt-leb, eq-eqb, ne-eqb}
+use lib.ListN.{length, getD, take, drop}
+use lib.ListN.{drop-of-length-le}
+use lib.Dec.{T, leb, ltb, eqb, leb→le, ltb→lt, eqb→eq}
+use mir.Facts.{and-yes}
+use lib.Seq.{drop-cons}
+use Rattle.rows.specs.Notation.{if_then_else_}
+use Rattle.rows.specs.Kinds.{Identifier, End}
+use Rattle.rows.specs.Format.{Format, token-length, longest-word, least-word-byte, greatest-word-byte}
+use Rattle.rows.specs.Records.{in-range, length-at, kind-at, span-start-at, span-end-at, word-at, word-fits, length-fits, well-formed, found, word-in}
+use Rattle.rows.specs.Laws.Tests.{by-if}
+use Rattle.rows.specs.declared.token.TokenRecord.{TokenRecord}
+use Rattle.rows.specs.declared.token.TokenRecord.the-variants.{Formed, Malformed}
+
+-- ---- a word, of which the first i bytes are in range
+
+module _ (w : List ℕ) (i : ℕ) (so-far : in-range w ≡ in-range (drop i w)) where
+  in-range-at : i < length w → in-range w ≡ (leb least-word-byte (getD w i 0) && leb (getD w i 0) greatest-word-byte && in-range (drop (i + 1) w))
+  unfolding in-range
+  in-range-at h = so-far ∙ rw (drop-cons w i 0 h, add-one) refl
+
+  pub too-low : i < length w → getD w i 0 < least-word-byte → false ≡ in-range w
+  too-low h low = sym (in-range-at h ∙ rw (lt-leb least-word-byte (getD w i 0) low) refl)
+
+  pub too-high : i < length w → least-word-byte ≤ getD w i 0 → greatest-word-byte < getD w i 0 → false ≡ in-range w
+  too-high h low high = sym (in-range-at h ∙ rw (le-leb least-word-byte (getD w i 0) low, lt-leb (getD w i 0) greatest-word-byte high) refl)
+
+  pub one-more : i < length w → least-word-byte ≤ getD w i 0 → getD w i 0 ≤ greatest-word-byte → in-range w ≡ in-range (drop (i + 1) w)
+  one-more h low high = in-range-at h ∙ rw (le-leb least-word-byte (getD w i 0) low, le-leb (getD w i 0) greatest-word-byte high) refl
+
+  pub no-more : length w ≤ i → true ≡ in-range w
+  unfolding in-range
+  no-more h = sym (so-far ∙ rw (drop-of-length-le w h) refl)
+
+-- ---- a record of length n and kind k, test by test
+
+module _ (f : Format) (file : List ℕ) (at : ℕ) (n : ℕ) (is-length : n ≡ length-at f file at) where
+  pub word-too-short : n ≤ token-length f → false ≡ word-fits f file at
+  unfolding word-fits
+  word-too-short p = sym (rw (← is-length, le-ltb (token-length f) n p) refl)
+
+  pub word-too-long : token-length f < n → token-length f + longest-word < n → false ≡ word-fits f file at
+  unfolding word-fits
+  word-too-long p q = sym (rw (← is-length, lt-ltb (token-length f) n p, lt-leb n (token-length f + longest-word) q) refl)
+
+  pub word-cut-off : token-length f < n → n ≤ token-length f + longest-word → length file < at + n → false ≡ word-fits f file at
+  unfolding word-fits
+  word-cut-off p q r = sym (rw (← is-length, lt-ltb (token-length f) n p, le-leb n (token-length f + longest-word) q, lt-leb (at + n) (length file) r) refl)
+
+  pub word-whole : token-length f < n → n ≤ token-length f + longest-word → at + n ≤ length file
+      → in-range (take (at + n - (at + token-length f)) (drop (at + token-length f) file)) ≡ word-fits f file at
+  unfolding word-fits word-at
+  word-whole p q r =
+      let size : at + n - (at + token-length f) ≡ n - token-length f = omega arith in
+      rw (size, ← is-length, lt-ltb (token-length f) n p, le-leb n (token-length f + longest-word) q, le-leb (at + n) (length file) r) refl
+
+  module _ (k : ℕ) (is-kind : k ≡ kind-at f file at) where
+    pub identifier-fits : k ≡ Identifier → word-fits f file at ≡ length-fits f file at
+    unfolding length-fits
+    identifier-fits e = sym (rw (← is-kind, eq-eqb k Identifier e) refl)
+
+    pub sign-fits : (k ≡ Identifier → ⊥) → eqb n (token-length f) ≡ length-fits f file at
+    unfolding length-fits
+    sign-fits e = rw (← is-kind, ne-eqb k Identifier e, ← is-length) refl
+
+    pub cut-off : length file < at + token-length f → Malformed ≡ found f file at
+    unfolding found well-formed
+    cut-off p = sym (rw (lt-leb (at + token-length f) (length file) p) refl)
+
+    module _ (whole : at + token-length f ≤ length file) where
+      pub kind-too-great : End < k → Malformed ≡ found f file at
+      unfolding found well-formed
+      kind-too-great p = sym (rw (le-leb (at + token-length f) (length file) whole, ← is-kind, lt-leb k End p) refl)
+
+      module _ (known : k ≤ End) where
+        pub span-reversed : span-end-at f file at < span-start-at f file at → Malformed ≡ found f file at
+        unfolding found well-formed
+        span-reversed p =
+            sym (rw (le-leb (at + token-length f) (length file) whole, ← is-kind, le-leb k End known, lt-leb (span-start-at f file at) (span-end-at f file at) p) refl)
+
+        pub by-length : span-start-at f file at ≤ span-end-at f file at → (b : Bool) → b ≡ length-fits f file at
+            → (if b then Formed k n else Malformed) ≡ found f file at
+        unfolding found well-formed
+        by-length p b e =
+            rw (e, is-kind, is-length, le-leb (at + token-length f) (length file) whole, le-leb (kind-at f file at) End (rw is-kind at known), le-leb (span-start-at f file at) (span-end-at f file at) p) refl
+
+-- ---- what a well-formed record has
+
+pub record Fits (f : Format) (file : List ℕ) (at k n : ℕ) : Type 0 where
+  pub is-kind : k ≡ kind-at f file at
+  pub is-length : n ≡ length-at f file at
+  pub known : k ≤ End
+  pub long : token-length f ≤ n
+  pub inside : at + n ≤ length file
+
+abbrev kind-in : TokenRecord → ℕ
+kind-in (Formed k n) = k
+kind-in Malformed = 0
+
+abbrev length-in : TokenRecord → ℕ
+length-in (Formed k n) = n
+length-in Malformed = 0
+
+abbrev is-formed : TokenRecord → ℕ
+is-formed (Formed k n) = 1
+is-formed Malformed = 0
+
+module _ (f : Format) (file : List ℕ) (at : ℕ) where
+  -- the length of a record that fits its kind
+  lengths : at + token-length f ≤ length file → T (length-fits f file at) → (token-length f ≤ length-at f file at) × (at + length-at f file at ≤ length file)
+  unfolding length-fits word-fits
+  lengths whole = by-if (λ (b : Bool). T b → (token-length f ≤ length-at f file at) × (at + length-at f file at ≤ length file)) (eqb (kind-at f file at) Identifier)
+      (λ _ t.
+      let u = and-yes (ltb (token-length f) (length-at f file at) && leb (length-at f file at) (token-length f + longest-word) && leb (at + length-at f file at) (length file)) (in-range (word-at f file at)) t in
+      let v = and-yes (ltb (token-length f) (length-at f file at) && leb (length-at f file at) (token-length f + longest-word)) (leb (at + length-at f file at) (length file)) (u .0) in
+      let w = and-yes (ltb (token-length f) (length-at f file at)) (leb (length-at f file at) (token-length f + longest-word)) (v .0) in
+      (omega (arith, ltb→lt (token-length f) (length-at f file at) (w .0)), leb→le (at + length-at f file at) (length file) (v .1)))
+      (λ _ t.
+      let same : length-at f file at ≡ token-length f = eqb→eq (length-at f file at) (token-length f) t in
+      (omega (arith, same), omega (arith, same)))
+
+  formed-fits′ : (b : Bool) → well-formed f file at ≡ b → (k n : ℕ) → (if b then Formed (kind-at f file at) (length-at f file at) else Malformed) ≡ Formed k n → Fits f file at k n
+  unfolding well-formed
+  formed-fits′ false w k n e = let clash : _≡_ {A = ℕ} 0 1 = ap is-formed e in absurd (omega (arith, clash))
+  formed-fits′ true w k n e =
+      let t : T (well-formed f file at) = rw w tt in
+      let u = and-yes (leb (at + token-length f) (length file) && leb (kind-at f file at) End && leb (span-start-at f file at) (span-end-at f file at)) (length-fits f file at) t in
+      let v = and-yes (leb (at + token-length f) (length file) && leb (kind-at f file at) End) (leb (span-start-at f file at) (span-end-at f file at)) (u .0) in
+      let x = and-yes (leb (at + token-length f) (length file)) (leb (kind-at f file at) End) (v .0) in
+      let l = lengths (leb→le (at + token-length f) (length file) (x .0)) (u .1) in
+      let same-kind : kind-at f file at ≡ k = ap kind-in e in
+      let same-length : length-at f file at ≡ n = ap length-in e in
+      record {
+        is-kind = sym same-kind;
+        is-length = sym same-length;
+        known = omega (arith, same-kind, leb→le (kind-at f file at) End (x .1));
+        long = omega (arith, same-length, l .0);
+        inside = omega (arith, same-length, l .1);
+      }
+
+  pub formed-fits : (k n : ℕ) → found f file at ≡ Formed k n → Fits f file at k n
+  unfolding found
+  formed-fits k n e = formed-fits′ (well-formed f file at) refl k n e
+
+  -- The word of a well-formed record as a part of the file.
+  pub word-part : (k n : ℕ) → found f file at ≡ Formed k n → take (at + n - (at + token-length f)) (drop (at + token-length f) file) ≡ word-at f file at
+  unfolding word-at
+  word-part k n e =
+      let fit = formed-fits k n e in
+      let size : at + n - (at + token-length f) ≡ length-at f file at - token-length f = omega (arith, fit .is-length) in
+      rw size refl
+
+  pub word-there : (k n : ℕ) → found f file at ≡ Formed k n → word-at f file at ≡ word-in f file at (found f file at)
+  unfolding word-in
+  word-there k n e = rw e refl
+
+  pub no-word-there : found f file at ≡ Malformed → [] ≡ word-in f file at (found f file at)
+  unfolding word-in
+  no-word-there e = rw e refl
