@@ -1,2 +1,7 @@
 pub mod Numbered
+pub mod Outside
+pub mod Steps
+pub mod Taking
+pub mod RowEnd
+pub mod ScanLoop
 pub mod Pairs

@@ -1,4 +1,6 @@
 pub mod Matcher
 pub mod Prescan
+pub mod ScanState
+pub mod Prescanned
 pub mod Laws
 pub mod Examples

@@ -1,1 +1,5 @@
-// The prescan: document 01, "Bracket pairs". Its definitions are in specs/.
+// The prescan: document 01, "Bracket pairs".
+
+pub mod boundary;
+pub mod prescan;
+pub mod scan;

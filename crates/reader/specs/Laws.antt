@@ -16,3 +16,11 @@ pub mod Loops
 pub mod Steps
 pub mod Allowance
 pub mod Injective
+pub mod Buffer
+pub mod TableWays
+pub mod Ahead
+pub mod Reached
+pub mod GroupWays
+pub mod NodeWays
+pub mod ListWays
+pub mod RowWays

@@ -1,1 +1,5 @@
-// The reader: document 01, "Node record". Its definitions are in specs/.
+// The reader: document 01, "Node record". It reads a row's token kinds into a tree of node records.
+
+pub mod nodes;
+pub mod parser;
+mod tables;

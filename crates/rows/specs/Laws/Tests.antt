@@ -1,6 +1,7 @@
 -- Laws of the notation that the definitions share.
 -- Assumes nothing.
-use mathlib.Core.Bool.{Bool, true, false, not}
+use mathlib.Core.Path.{_≡_, refl}
+use mathlib.Core.Bool.{Bool, true, false, not, _||_}
 use lib.Dec.{T}
 use Rattle.rows.specs.Notation.{if_then_else_}
 
@@ -8,3 +9,12 @@ use Rattle.rows.specs.Notation.{if_then_else_}
 pub by-if {ℓ κ} : {A : Type ℓ} (P : A → Type κ) (b : Bool) {x y : A} → (T b → P x) → (T (not b) → P y) → P (if b then x else y)
 by-if P true f g = f tt
 by-if P false f g = g tt
+
+-- A chain of tests, as `is-one-of` makes it and as code writes it.
+pub or-false : (b : Bool) → (b || false) ≡ b
+or-false true = refl
+or-false false = refl
+
+pub or-assoc : (a b c : Bool) → (a || (b || c)) ≡ (a || b || c)
+or-assoc true b c = refl
+or-assoc false b c = refl

@@ -1,0 +1,87 @@
+// After the last token: document 01, "Row end".
+
+use crate::scan::ScanState;
+use crate::scan::delimiter;
+use crate::scan::index;
+use rows::answer::TypeNameError;
+use rows::kinds::AMPERSAND;
+use rows::kinds::GREATER;
+use rows::kinds::IDENTIFIER;
+use rows::kinds::INTEGER;
+use rows::kinds::LOGICAL_AND;
+use rows::kinds::RIGHT_BRACKET;
+use rows::kinds::RIGHT_PAREN;
+use rows::kinds::SCOPE;
+use rows::kinds::SHIFT_RIGHT;
+use rows::kinds::STAR;
+use rows::languages::C;
+use rows::languages::FORTRAN;
+ghost use mathlib.Core.Path.{_≡_};
+ghost use Prim.Native.Nat.{_-_, _<_};
+ghost use lib.ListN.{getD, length};
+ghost use Rattle.rows.specs.Kinds.{NoToken};
+ghost use Rattle.prescan.specs.Prescan.{row-end, valid-end, valid-start};
+ghost use Rattle.prescan.specs.Prescanned.{Says};
+ghost use Rattle.prescan.specs.ScanState.{Sound, openers, scan-of};
+
+pub enum Prescanned {
+    Passed,
+    Refused(TypeNameError),
+}
+
+fn is_valid_start(first: u8) -> bool
+    ensures { λ r. ⌜ r ≡ valid-start first ⌝ }
+{
+    (first == IDENTIFIER) | (first == SCOPE)
+}
+
+fn is_valid_end(language: u8, before: u8, last: u8) -> bool
+    ensures { λ r. ⌜ r ≡ valid-end language before last ⌝ }
+{
+    (last == IDENTIFIER)
+        | (last == RIGHT_PAREN)
+        | (last == RIGHT_BRACKET)
+        | (last == GREATER)
+        | (last == SHIFT_RIGHT)
+        | (last == STAR)
+        | (!(language == C) & ((last == AMPERSAND) | (last == LOGICAL_AND)))
+        | ((language == FORTRAN) & (before == STAR) & (last == INTEGER))
+}
+
+// The kind before the last token's; of a single token, its own.
+fn kind_before_last(kinds: &[u8]) -> u8
+    requires { ⌜ 0 < length (now kinds) ⌝ }
+    ensures { λ r. ⌜ r ≡ getD (now (kinds .entry)) (length (now (kinds .entry)) - 2) NoToken ⌝ }
+{
+    if kinds.len() < 2 {
+        return kinds[0];
+    }
+    kinds[kinds.len() - 2]
+}
+
+// An open bracket, an open angle, no identifier or a bad boundary, in this order; or the row passes.
+pub fn check_row_end(language: u8, kinds: &[u8], stack: &[u32], s: ScanState) -> Prescanned
+    requires { ⌜ Sound (now kinds) (now stack) s (length (now kinds)) × (0 < length (now kinds)) ⌝ }
+    ensures { λ r. ⌜ Says r (row-end language (now (kinds .entry)) (openers (now (kinds .entry)) (now (stack .entry)) (s .depth)) (scan-of (openers (now (kinds .entry)) (now (stack .entry)) (s .depth)) s)) ⌝ }
+{
+    let depth = s.depth;
+    if 0 < depth {
+        let token = stack[depth - 1];
+        let open = delimiter(kinds[index(token)]);
+        return Prescanned::Refused(TypeNameError::UnclosedDelimiter {
+            delimiter: open,
+            token,
+        });
+    }
+    if 0 < s.angles {
+        return Prescanned::Refused(TypeNameError::UnclosedAngle { token: s.first });
+    }
+    if !s.word {
+        return Prescanned::Refused(TypeNameError::MissingTypeWord);
+    }
+    let before = kind_before_last(kinds);
+    if is_valid_start(kinds[0]) & is_valid_end(language, before, kinds[kinds.len() - 1]) {
+        return Prescanned::Passed;
+    }
+    Prescanned::Refused(TypeNameError::InvalidBoundaryToken)
+}

@@ -1,0 +1,43 @@
+// The prescan of a row by its token kinds.
+
+use crate::boundary::Prescanned;
+use crate::boundary::check_row_end;
+use crate::scan::ScanState;
+use crate::scan::ScanStep;
+use crate::scan::take;
+use rows::answer::NO_TOKEN;
+use rows::answer::TypeNameError;
+use rows::kinds::NO_TOKEN_KIND;
+ghost use Prim.Native.Nat.{_<_, _≤_};
+ghost use lib.ListN.{length};
+ghost use Rattle.prescan.specs.Prescan.{prescan};
+ghost use Rattle.prescan.specs.Prescanned.{Says};
+
+// Refusals 10 to 18. `stack` is lent for the openers' token numbers; what it holds in the end is free.
+pub fn prescan_row(language: u8, kinds: &[u8], stack: &mut [u32]) -> Prescanned
+    requires { ⌜ (length (now kinds) ≤ length (now stack)) × (length (now kinds) < 4294967296) ⌝ }
+    ensures { λ r. ⌜ Says r (prescan language (now (kinds .entry))) ⌝ }
+{
+    if kinds.len() == 0 {
+        return Prescanned::Refused(TypeNameError::Empty);
+    }
+    let mut state = ScanState {
+        depth: 0,
+        angles: 0,
+        first: NO_TOKEN,
+        word: false,
+        last: NO_TOKEN_KIND,
+    };
+    let mut at = 0;
+    while at < kinds.len() {
+        let step = take(language, kinds, stack, state, at);
+        match step {
+            ScanStep::Refused(error) => return Prescanned::Refused(error),
+            ScanStep::On(next) => {
+                state = next;
+                at += 1;
+            }
+        }
+    }
+    check_row_end(language, kinds, stack, state)
+}
