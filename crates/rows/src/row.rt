@@ -4,6 +4,10 @@ use crate::answer::TypeNameError;
 use crate::token::TOKEN_LENGTH;
 use crate::token::TokenRecord;
 use crate::token::token_at;
+use crate::words::NUMBERS;
+use crate::words::SHORTER;
+use crate::words::STARTS;
+use crate::words::TEXTS;
 use crate::words::number_of_word;
 ghost use mathlib.Core.Path.{_≡_};
 ghost use Rattle.rows.specs.RowRead.{Reads, Room};
@@ -28,6 +32,10 @@ pub fn read_row(
     requires { ⌜ Room (now file) most (now kinds) (now words) (now places) ⌝ }
     ensures { λ r. ⌜ Reads (now (file .entry)) begin most (now (kinds .entry)) (now (words .entry)) (now (places .entry)) r (now (kinds .exit)) (now (words .exit)) (now (places .exit)) ⌝ }
 {
+    let texts = TEXTS;
+    let numbers = NUMBERS;
+    let starts = STARTS;
+    let shorter = SHORTER;
     let mut at = begin;
     let mut count: usize = 0;
     while at < file.len() {
@@ -41,7 +49,7 @@ pub fn read_row(
         let word = at + TOKEN_LENGTH;
         let next = at + length;
         kinds[count] = kind;
-        words[count] = number_of_word(&file[word..next]);
+        words[count] = number_of_word(&file[word..next], &texts, &numbers, &starts, &shorter);
         places[count] = at as u32;
         count += 1;
         at = next;

@@ -5,6 +5,7 @@ ghost use Prim.Native.Nat.{_+_, _≤_};
 ghost use lib.ListN.{drop, length, take};
 ghost use Rattle.rows.specs.Words.{lower, word-number};
 ghost use Rattle.rows.specs.Laws.KnownWords.{compared, texts};
+ghost use Rattle.rows.specs.Laws.KnownTable.{Tables};
 
 // Added to the number of a word that is known with case ignored only.
 const OTHER_CASE: u8 = 128;
@@ -13,12 +14,14 @@ const NO_WORD: u8 = 0;
 
 const LONGEST_KNOWN: usize = 16;
 
+// The tables are lent to the search: made anew at each use, they would be copied at each use.
+
 // The known words one after another, shorter ones first, those of one length by their numbers.
-const TEXTS: [u8; 307] =
+pub const TEXTS: [u8; 307] =
     *b"intvoidboolcharlongenumtype_Boolfloatshortconstunionclassdoublesignedtypeofstructwchar_tchar8_t_Atomic_BitIntcomplexchar16_tchar32_tunsigned_Complexvolatilerestrictnoexceptdecltype__typeoftypenameprecision_Decimal32_Decimal64_Imaginary__restrict__typeof___Decimal128__restrict__typeof_unqualtransaction_safe";
 
 // Their numbers, in that order.
-const NUMBERS: [u8; 42] = [
+pub const NUMBERS: [u8; 42] = [
     9,
     1,
     2,
@@ -64,7 +67,7 @@ const NUMBERS: [u8; 42] = [
 ];
 
 // Where each begins in TEXTS.
-const STARTS: [usize; 42] = [
+pub const STARTS: [usize; 42] = [
     0,
     3,
     7,
@@ -110,7 +113,7 @@ const STARTS: [usize; 42] = [
 ];
 
 // For each length, how many known words are shorter.
-const SHORTER: [usize; 18] = [
+pub const SHORTER: [usize; 18] = [
     0,
     0,
     0,
@@ -150,19 +153,19 @@ fn lower_case(byte: u8) -> u8
 }
 
 // A word beside the known text of the same length that begins at a place of TEXTS.
-fn compare(word: &[u8], begin: usize) -> Comparison
-    requires { ⌜ begin + length (now word) ≤ 307 ⌝ }
+fn compare(word: &[u8], known: &[u8; 307], begin: usize) -> Comparison
+    requires { ⌜ (begin + length (now word) ≤ 307) × (now known ≡ texts) ⌝ }
     ensures { λ r. ⌜ r ≡ compared (now (word .entry)) (take (length (now (word .entry))) (drop begin texts)) ⌝ }
 {
     let mut exact = true;
     let mut i = 0;
     while i < word.len() {
         let byte = word[i];
-        let known = TEXTS[begin + i];
-        if lower_case(byte) != lower_case(known) {
+        let other = known[begin + i];
+        if lower_case(byte) != lower_case(other) {
             return Comparison::Different;
         }
-        exact = exact & (byte == known);
+        exact = exact & (byte == other);
         i += 1;
     }
     if exact {
@@ -172,21 +175,28 @@ fn compare(word: &[u8], begin: usize) -> Comparison
 }
 
 // The number of a word: n for known word n, n + 128 for known word n in another case, 0 for every other word.
-pub fn number_of_word(word: &[u8]) -> u8
+pub fn number_of_word(
+    word: &[u8],
+    known: &[u8; 307],
+    numbers: &[u8; 42],
+    starts: &[usize; 42],
+    shorter: &[usize; 18],
+) -> u8
+    requires { ⌜ Tables (now known) (now numbers) (now starts) (now shorter) ⌝ }
     ensures { λ r. ⌜ r ≡ word-number (now (word .entry)) ⌝ }
 {
     let size = word.len();
     if LONGEST_KNOWN < size {
         return NO_WORD;
     }
-    let end = SHORTER[size + 1];
-    let mut row = SHORTER[size];
+    let end = shorter[size + 1];
+    let mut row = shorter[size];
     while row < end {
-        let begin = STARTS[row];
-        let comparison = compare(word, begin);
+        let begin = starts[row];
+        let comparison = compare(word, known, begin);
         match comparison {
-            Comparison::Exact => return NUMBERS[row],
-            Comparison::OtherCase => return NUMBERS[row] + OTHER_CASE,
+            Comparison::Exact => return numbers[row],
+            Comparison::OtherCase => return numbers[row] + OTHER_CASE,
             Comparison::Different => {
                 row += 1;
             }

@@ -77,6 +77,13 @@ unfoldable pub numbers : List ℕ
 unfolding ordered
 numbers = map (λ (k : Known). k .number) ordered
 
+-- What is lent to the search.
+pub record Tables (known′ numbers′ starts′ shorter′ : List ℕ) : Type 0 where
+  pub known-are : known′ ≡ texts
+  pub numbers-are : numbers′ ≡ numbers
+  pub starts-are : starts′ ≡ starts
+  pub shorter-are : shorter′ ≡ shorter
+
 pub shorter-at : (n : ℕ) → n < 18 → getD shorter n 0 ≡ start groups n
 unfolding shorter
 shorter-at n p = tabled (λ n. start groups n) 18 n p refl

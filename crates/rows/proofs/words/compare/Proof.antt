@@ -13,10 +13,10 @@ use Rattle.rows.proofs.words.compare.Lts as lts
 use Rattle.rows.proofs.words.lower_case.Reads as lower-case-reads
 
 abbrev Inv-loop : tie.InvT-loop
-Inv-loop word begin exact₀ i₀ exact i = SoFar word (take (length word) (drop begin texts)) exact i
+Inv-loop word known begin exact₀ i₀ exact i = SoFar word (take (length word) (drop begin texts)) exact i
 
 abbrev μ-loop : tie.MeasureT-loop
-μ-loop word begin exact₀ i₀ exact i = length word - i
+μ-loop word known begin exact₀ i₀ exact i = length word - i
 
 loop-holds : tie.Need-loop-holds Inv-loop μ-loop
 loop-holds c = nothing-yet _ _
@@ -24,11 +24,11 @@ loop-holds c = nothing-yet _ _
 shared-slice-read-byte : tie.Need-shared-slice-read-byte Inv-loop μ-loop
 shared-slice-read-byte c = omega arith
 
-add-known : tie.Need-add-known Inv-loop μ-loop
-add-known c = omega (arith, c .before .before .loop .inv .inside)
+add-other : tie.Need-add-other Inv-loop μ-loop
+add-other c = omega (arith, c .before .before .loop .inv .inside)
 
-array-read-known : tie.Need-array-read-known Inv-loop μ-loop
-array-read-known c = omega (arith, c .before .before .loop .inv .inside)
+element-copy-out-other : tie.Need-element-copy-out-other Inv-loop μ-loop
+element-copy-out-other c = omega arith
 
 lower-case-requires : tie.Need-lower-case-requires Inv-loop μ-loop
 lower-case-requires c κs = omega arith
@@ -38,7 +38,7 @@ lower-case-requires-2 c κs = omega arith
 
 returns : tie.Need-returns Inv-loop μ-loop
 unfolding texts
-returns c = text-differs _ _ (c .before .before .before .before .before .before .before .pre) _ _ (c .before .before .before .before .before .loop .inv) (omega arith) _ _ (c .before .before .lower-case .ensures) (c .before .lower-case2 .ensures) (c .if1 .taken)
+returns c = text-differs _ _ (c .before .before .before .before .before .before .before .before .pre .0) _ _ (c .before .before .before .before .before .before .loop .inv) (omega arith) _ _ (c .before .before .lower-case .ensures) (rw (c .before .before .before .before .before .before .before .before .pre .1) at (c .before .lower-case2 .ensures)) (c .if1 .taken)
 
 add-i : tie.Need-add-i Inv-loop μ-loop
 add-i c = omega arith
@@ -48,13 +48,13 @@ loop-less c = omega arith
 
 loop-again : tie.Need-loop-again Inv-loop μ-loop
 unfolding texts
-loop-again c = text-same _ _ (c .before .before .before .before .before .before .before .pre) _ _ (c .before .before .before .before .before .loop .inv) (omega arith) _ _ (c .before .before .lower-case .ensures) (c .before .lower-case2 .ensures) (c .if1 .left)
+loop-again c = rw (c .before .before .before .before .before .before .before .before .pre .1) (text-same _ _ (c .before .before .before .before .before .before .before .before .pre .0) _ _ (c .before .before .before .before .before .before .loop .inv) (omega arith) _ _ (c .before .before .lower-case .ensures) (rw (c .before .before .before .before .before .before .before .before .pre .1) at (c .before .lower-case2 .ensures)) (c .if1 .left))
 
 returns-2 : tie.Need-returns-2 Inv-loop μ-loop
-returns-2 c = text-ended _ _ (c .before .before .before .before .pre) _ _ (c .before .before .loop .inv) (omega arith) true (c .if2 .taken)
+returns-2 c = text-ended _ _ (c .before .before .before .before .pre .0) _ _ (c .before .before .loop .inv) (omega arith) true (c .if2 .taken)
 
 returns-3 : tie.Need-returns-3 Inv-loop μ-loop
-returns-3 c = text-ended _ _ (c .before .before .before .before .pre) _ _ (c .before .before .loop .inv) (omega arith) false (c .if2 .left)
+returns-3 c = text-ended _ _ (c .before .before .before .before .pre .0) _ _ (c .before .before .loop .inv) (omega arith) false (c .if2 .left)
 
 pub compare-spec : {M : Type 1} → statement M
 compare-spec =
@@ -64,8 +64,8 @@ compare-spec =
     μ-loop
     loop-holds
     shared-slice-read-byte
-    add-known
-    array-read-known
+    add-other
+    element-copy-out-other
     lower-case-requires
     lower-case-requires-2
     returns
