@@ -1,2 +1,3 @@
 pub mod Profile
+pub mod Laws
 pub mod Examples
