@@ -28,6 +28,10 @@ count (node k i b x) = suc (count b + count x)
 abbrev pub node-width : ℕ
 node-width = 3
 
+-- Refusal 6: "fewer than 6 numbers per token".
+abbrev pub numbers-per-token : ℕ
+numbers-per-token = 6
+
 -- The node records, "parents first": kind, token number, extent ("nodes in its subtree, itself included").
 unfoldable pub records : Nodes → List ℕ
 unfolding count number

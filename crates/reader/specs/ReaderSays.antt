@@ -9,9 +9,10 @@ use mathlib.Core.List.{List}
 use lib.ListN.{length, take}
 use lib.Dec.{leb, eqb}
 use Rattle.rows.specs.Kinds.{Identifier, ShiftRight}
+use Rattle.rows.specs.Format.{most-tokens}
 use Rattle.rows.specs.declared.answer.TypeNameError.{TypeNameError}
 use Rattle.rows.specs.declared.answer.TypeNameError.the-variants.{UnexpectedTokenAfterTypeName}
-use Rattle.reader.specs.Nodes.{NodeKind, Nodes, none, node, count, node-width, records}
+use Rattle.reader.specs.Nodes.{NodeKind, Nodes, none, node, count, node-width, numbers-per-token, records}
 use Rattle.reader.specs.Reading.{Level, Fault, refusal, Got, got, bad, starts, kindAt, MAX-NESTING-DEPTH, down, go, read}
 use Rattle.reader.specs.Laws.Allowance.{Limited, done, denied, spent, steps, limited, behind}
 use Rattle.reader.specs.declared.parser.TypeSyntaxParser.{TypeSyntaxParser}
@@ -26,17 +27,18 @@ use Rattle.reader.specs.declared.parser.Parsed.the-variants as Parsed
 
 -- ---- what a caller sees to
 
--- From token `at` on the buffer has 6 numbers for each token left, and `spare` more; so many lists are open, and so many groups and lists, at most `limit`.
+-- From token `at` on the buffer has the numbers of each token left, and `spare` more; so many lists are open, and so many groups and lists, at most `limit`.
 pub record Ready (row : List ℕ) (at lists nesting limit spare : ℕ) (buf : List ℕ) : Type 0 where
   pub within : at ≤ length row
-  pub short : length row ≤ 1024
-  pub room : 6 * length row + spare ≤ length buf + 6 * at
+  pub short : length row ≤ most-tokens
+  pub room : numbers-per-token * length row + spare ≤ length buf + numbers-per-token * at
   pub fewer : lists ≤ nesting
   pub shallow : nesting ≤ limit
 
 -- ---- what a reading of nodes says
 
--- A level, or a list's arguments, read from token `at` on: the definition's nodes, and their records at the front of the buffer.
+-- A level, or a list's arguments, read from token `at` on: n nodes, the definition's, and their records at the front of the buffer. `size` is
+-- what a caller needs to lend what is left: two nodes a token, and `extra`.
 pub record Told (row : List ℕ) (at extra : ℕ) (o : Limited) (now : TypeSyntaxParser) (n : ℕ) (buf : List ℕ) : Type 0 where
   pub nodes : Nodes
   pub is : o ≡ done nodes (now .cursor) (now .«pending_greater») (now .left)
@@ -126,7 +128,7 @@ closed-half row at false = eqb (kindAt row at) ShiftRight
 
 -- ---- the whole row
 
--- The row is read: its tree, with `steps` steps, and nothing is left over.
+-- The row is read: its tree of n nodes, with m steps, and nothing is left over.
 pub record TreeRead (row : List ℕ) (allowance : ℕ) (g : Got) (n m : ℕ) (buf : List ℕ) : Type 0 where
   pub nodes : Nodes
   pub is : g ≡ got nodes (length row) false m

@@ -1,5 +1,6 @@
-// The reading of a row into a tree: document 01, "Node record" and "Steps".
-// Each reading writes its nodes at the front of the tail of the tree buffer that it is lent.
+// The reading of a row into a tree: document 01, "Node record" and "Steps". It is the original's `TypeSyntaxParser`, over token kinds.
+// Each reading writes its nodes at the front of the tail of the tree buffer that it is lent. `lists` and `nesting` are the original's
+// template and nesting depth; the contracts' words are in specs/ReaderSays.antt.
 
 use crate::nodes::ARGUMENT_NODE;
 use crate::nodes::LIST_NODE;
@@ -25,7 +26,8 @@ ghost use mathlib.Core.Bool.{false};
 ghost use mathlib.Core.List.{_∷_};
 ghost use Prim.Native.Nat.{_+_, _*_, _≤_, _<_};
 ghost use lib.ListN.{drop, length};
-ghost use Rattle.reader.specs.Nodes.{node-width};
+ghost use Rattle.rows.specs.Format.{most-tokens};
+ghost use Rattle.reader.specs.Nodes.{node-width, numbers-per-token};
 ghost use Rattle.reader.specs.Reading.{list, reading};
 ghost use Rattle.reader.specs.Tables.{level-of};
 ghost use Rattle.reader.specs.declared.parser.Reading.the-variants.{Done};
@@ -308,7 +310,7 @@ fn parse_template_arguments(
 
 // Reads a row: its tree at the front of `tree`, or why it has none.
 pub fn parse(kinds: &[u8], cpp: bool, tree: &mut [u32], allowance: u32) -> Parsed
-    requires { ⌜ (length (now kinds) ≤ 1024) × (6 * length (now kinds) ≤ length (now tree)) ⌝ }
+    requires { ⌜ (length (now kinds) ≤ most-tokens) × (numbers-per-token * length (now kinds) ≤ length (now tree)) ⌝ }
     ensures { λ r. ⌜ Parses (now (kinds .entry)) allowance (reading cpp (now (kinds .entry))) r (now (tree .exit)) ⌝ }
 {
     let read = parse_group(

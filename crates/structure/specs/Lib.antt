@@ -6,5 +6,8 @@ pub mod Declarators
 pub mod Expressions
 pub mod FortranTypes
 pub mod Structure
+pub mod Stands
+pub mod Represented
+pub mod Allowance
 pub mod Laws
 pub mod Examples

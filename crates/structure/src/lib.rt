@@ -1,1 +1,9 @@
 // The structure check: does a tree name a type (refusal 30), and in how many steps. Its definitions are in specs/.
+
+pub mod combination;
+pub mod moves;
+pub mod nodes;
+pub mod sets;
+pub mod shapes;
+pub mod tables;
+pub mod words;

@@ -19,7 +19,7 @@ use Rattle.rows.specs.declared.head.FileHead.{FileHead}
 use Rattle.rows.specs.declared.head.FileHead.the-variants as FileHead
 use Rattle.prescan.specs.Prescan.{Scanned, passed, prescan}
 use Rattle.prescan.specs.Prescan
-use Rattle.reader.specs.Nodes.{Nodes, none, node, count, records}
+use Rattle.reader.specs.Nodes.{Nodes, none, node, count, numbers-per-token, records}
 use Rattle.reader.specs.Reading.{Got, got, bad, Fault, refusal, no-list, reading}
 use Rattle.structure.specs.Moves.{Said, holds, fails}
 use Rattle.structure.specs.Structure.{validate-structured-syntax}
@@ -86,10 +86,6 @@ unfoldable pub answerOf : (language standard flag : ℕ) → (kinds words : List
 answerOf language standard flag kinds words allowance = limited allowance (unlimited language standard flag kinds words)
 
 -- ---- the answer to a file
-
--- Refusal 6: "fewer than 6 numbers per token".
-abbrev pub numbers-per-token : ℕ
-numbers-per-token = 6
 
 -- What comes of a file: a refusal that does not touch the tree buffer (1 to 6), or the answer to its row.
 pub data Outcome : Type 0 where

@@ -14,11 +14,11 @@ use Rattle.rows.specs.declared.answer.Answer.the-variants.{Accepted, Refused}
 use Rattle.rows.specs.declared.head.Head.{Head}
 use Rattle.rows.specs.declared.head.FileHead.the-variants.{Formed}
 use Rattle.prescan.specs.Matcher.{Pair, Paired}
-use Rattle.reader.specs.Nodes.{Nodes, G-node, B-node, count, records}
+use Rattle.reader.specs.Nodes.{Nodes, G-node, B-node, count, numbers-per-token, records}
 use Rattle.reader.specs.Reading.{MAX-NESTING-DEPTH}
 use Rattle.reader.specs.Written.{Token, written, halved, angles, without-angles}
 use Rattle.reader.specs.Standing.{depth, tokens-of, numbers-of, token-of, IsGroup, Below}
-use Rattle.type_name.specs.Answers.{accepted, outcome, read, answer, filled, final-buffer, numbers-per-token}
+use Rattle.type_name.specs.Answers.{accepted, outcome, read, answer, filled, final-buffer}
 
 -- ---- demands 1 and 2
 

@@ -10,6 +10,13 @@ use Rattle.reader.specs.Nodes.{NodeKind, Nodes, none, node, number, coun
 use Rattle.reader.specs.Laws.NodeNumbers.{three-each}
 use Rattle.reader.specs.Laws.Loops.{_then_, then-records}
 
+-- What is lent of a buffer from number k on, and the buffer when it is given back with other numbers.
+abbrev pub lent : (k : ℕ) → List ℕ → List ℕ
+lent k xs = take (length xs - k) (drop k xs)
+
+abbrev pub given-back : (k : ℕ) → List ℕ → List ℕ → List ℕ
+given-back k xs ys = take k xs ++ (ys ++ drop (length xs - k) (drop k xs))
+
 -- Three numbers at the front.
 pub put : (xs : List ℕ) (a b c : ℕ) → node-width ≤ length xs → set (set (set xs 0 a) 1 b) 2 c ≡ a ∷ b ∷ c ∷ drop node-width xs
 put [] a b c h = absurd (omega arith)
@@ -70,7 +77,7 @@ token-written k q e = rw (e, q)
 -- An argument's record, written behind m nodes and before the argument's own.
 pub argument-written : (k : NodeKind) (x y : Nodes) (at m i kn : ℕ) (tree ys zs : List ℕ) → count y ≡ i → kn ≡ number k
     → take (node-width * m) tree ≡ records x → take (node-width * i) (drop (node-width * m + node-width) tree) ≡ records y
-    → ys ≡ kn ∷ at ∷ (i + 1) ∷ drop node-width (take (length tree - node-width * m) (drop (node-width * m) tree)) → length ys ≡ length tree - node-width * m
+    → ys ≡ kn ∷ at ∷ (i + 1) ∷ drop node-width (lent (node-width * m) tree) → length ys ≡ length tree - node-width * m
     → node-width * m + node-width + node-width * i ≤ length tree
     → take (node-width * (m + i + 1)) (take (node-width * m) tree ++ (ys ++ zs)) ≡ records (x then node k at y none)
 unfolding records
@@ -78,13 +85,13 @@ argument-written k x y at m i kn tree ys zs c q wx wy put long room =
     let e : node-width * (m + i + 1) ≡ node-width * m + node-width * suc i = omega arith in
     let s : i + 1 ≡ suc i = omega arith in
     let t : suc i ≡ suc (count y) = ap suc (sym c) in
-    let whole : take (length tree - node-width * m) (drop (node-width * m) tree) ≡ drop (node-width * m) tree = take-all (length tree - node-width * m) (drop (node-width * m) tree) (simp length-drop (omega arith)) in
+    let whole : lent (node-width * m) tree ≡ drop (node-width * m) tree = take-all (length tree - node-width * m) (drop (node-width * m) tree) (simp length-drop (omega arith)) in
     ap (λ (j : ℕ). take j (take (node-width * m) tree ++ (ys ++ zs))) e
     ∙ after-front tree ys zs (node-width * m) (node-width * suc i) (omega arith) (omega arith)
     ∙ ap (λ (l : List ℕ). l ++ take (node-width * suc i) ys) wx
     ∙ ap (λ (l : List ℕ). records x ++ l)
     (ap (take (node-width * suc i)) put
-    ∙ take-node i kn at (i + 1) (drop node-width (take (length tree - node-width * m) (drop (node-width * m) tree)))
+    ∙ take-node i kn at (i + 1) (drop node-width (lent (node-width * m) tree))
     ∙ ap (λ (l : List ℕ). kn ∷ at ∷ (i + 1) ∷ take (node-width * i) (drop node-width l)) whole
     ∙ ap (λ (l : List ℕ). kn ∷ at ∷ (i + 1) ∷ take (node-width * i) l) (drop-drop node-width (node-width * m) tree)
     ∙ ap (λ (l : List ℕ). kn ∷ at ∷ (i + 1) ∷ l) (wy ∙ sym (append-nil (records y)))

@@ -19,7 +19,7 @@ use Rattle.reader.specs.Tables.{level-of, planned, Plans}
 use Rattle.reader.specs.ReaderSays.{Ready, Told, Denied, GroupSays, GroupAnswers, Found, NodeSays, NodeAnswers, level-due, node-due, rest-due}
 use Rattle.reader.specs.Laws.Derived.{Read, Allowed, next-allowed}
 use Rattle.reader.specs.Laws.Bounds.{forwards, within}
-use Rattle.reader.specs.Laws.Buffer.{after-front, holds}
+use Rattle.reader.specs.Laws.Buffer.{lent, given-back, after-front, holds}
 use Rattle.reader.specs.Laws.Allowance.{Limited, denied, spent}
 use Rattle.reader.specs.Laws.Ahead.{down-read, turned-ends, turned-stops}
 use Rattle.reader.specs.Laws.Reached.{Way, Reached, begun, reached-done, reached-denied, node-stop, node-more}
@@ -121,8 +121,8 @@ module _ {cpp : Bool} {row tree₀ : List ℕ} {l : Level} {lists nesting : ℕ}
 
     -- One node more.
     pub group-again : {k : ℕ} → k ≡ kindAt row (now .cursor) → {to : TypeSyntaxParser} {more : ℕ} (ys : List ℕ) → Found cpp row lists nesting word now to more ys
-        → length ys ≡ length (take (length tree - node-width * m) (drop (node-width * m) tree))
-        → GroupLoop cpp row tree₀ l lists nesting p (take (node-width * m) tree ++ (ys ++ drop (length tree - node-width * m) (drop (node-width * m) tree))) to (eqb k Identifier) (m + more)
+        → length ys ≡ length (lent (node-width * m) tree)
+        → GroupLoop cpp row tree₀ l lists nesting p (given-back (node-width * m) tree ys) to (eqb k Identifier) (m + more)
     unfolding count
     group-again {k} ke {to} {more} ys f kept =
         let w = inv .way in

@@ -16,7 +16,7 @@ use Rattle.reader.specs.Reading.{argument, list, Fault, refusal, no-list
 use Rattle.reader.specs.ReaderSays.{Ready, Told, Denied, Found, NodeAnswers, ListSays, ListAnswers, level-due, rest-due, listing-of, closed-at, closed-half}
 use Rattle.reader.specs.Laws.Tokens.{inside}
 use Rattle.reader.specs.Laws.Loops.{_then_, then-count}
-use Rattle.reader.specs.Laws.Buffer.{after, front, holds, argument-written}
+use Rattle.reader.specs.Laws.Buffer.{lent, given-back, after, front, holds, argument-written}
 use Rattle.reader.specs.Laws.Allowance.{Limited, done, denied, limited, behind, on-done, argued-left, limited-first}
 use Rattle.reader.specs.Laws.Ahead.{ahead, ahead-behind, ahead-done, down-deep, down-read, turned, turned-ends, turned-stops}
 use Rattle.reader.specs.Laws.GroupWays.{node-stopped}
@@ -51,6 +51,14 @@ arguments-begin ready = record { long = refl; way = record { forwards = omega ar
 pub nodes-begin : {cpp : Bool} {row tree : List ℕ} {lists nesting head : ℕ} {now : TypeSyntaxParser} → now .cursor ≤ length row
     → NodesLoop cpp row lists nesting head tree now tree now false 0
 nodes-begin within = record { long = refl; same = refl; way = record { forwards = omega arith; within = within; size = omega arith }; reached = begun }
+
+-- Where the next node of an argument is written, with m nodes before the argument and i in it.
+abbrev pub behind-nodes : (m i : ℕ) → ℕ
+behind-nodes m i = node-width * m + node-width + node-width * i
+
+-- An argument ends where the reading stands.
+abbrev pub ends-at : List ℕ → (lists : ℕ) → TypeSyntaxParser → Bool
+ends-at row lists now = closes lists (kindAt row (now .cursor)) (now .«pending_greater») || eqb (kindAt row (now .cursor)) Comma
 
 -- ---- how the arguments end
 
@@ -143,74 +151,83 @@ list-deep cpp row lists nesting p h = (refusal NestingLimitExceeded, down-deep c
 module _ {cpp : Bool} {row : List ℕ} {lists nesting : ℕ} where
   module _ {tree₀ : List ℕ} {p : TypeSyntaxParser} {tree₁ : List ℕ} {now₁ : TypeSyntaxParser} {m : ℕ}
       (outer : ArgumentsLoop cpp row tree₀ lists nesting p tree₁ now₁ m) (shallow : nesting ≤ MAX-NESTING-DEPTH) where
-    downs : level-due cpp row list lists nesting p ≡ rest-due cpp row lists nesting false p list
+    abbrev whole : Limited
+    whole = level-due cpp row list lists nesting p
+
+    abbrev at₁ : ℕ
+    at₁ = now₁ .cursor
+
+    abbrev half₁ : Bool
+    half₁ = now₁ .«pending_greater»
+
+    downs : whole ≡ rest-due cpp row lists nesting false p list
     downs = down-read cpp row list lists nesting (p .left) (p .cursor) (p .«pending_greater») shallow
 
-    arguments-denied : (e : Fault) (left : ℕ) → rest-due cpp row lists nesting false now₁ list ≡ denied e left → level-due cpp row list lists nesting p ≡ denied e left
+    arguments-denied : (e : Fault) (left : ℕ) → rest-due cpp row lists nesting false now₁ list ≡ denied e left → whole ≡ denied e left
     arguments-denied e left q = downs ∙ reached-denied (outer .reached) e left q
 
     -- An argument would begin where the list can end.
-    pub empty-first : closes lists (kindAt row (now₁ .cursor)) (now₁ .«pending_greater») ≡ true → (e : Fault) × (level-due cpp row list lists nesting p ≡ denied e (now₁ .left))
+    pub empty-first : closes lists (kindAt row at₁) (now₁ .«pending_greater») ≡ true → (e : Fault) × (whole ≡ denied e (now₁ .left))
     unfolding next
     empty-first t = (
       no-list,
-      arguments-denied no-list (now₁ .left) (turned-stops cpp row list lists nesting false (now₁ .cursor) (now₁ .«pending_greater») (outer .way .within) (now₁ .left) no-list (sym (rw t))),
+      arguments-denied no-list (now₁ .left) (turned-stops cpp row list lists nesting false at₁ half₁ (outer .way .within) (now₁ .left) no-list (sym (rw t))),
     )
 
-    module _ (open₁ : closes lists (kindAt row (now₁ .cursor)) (now₁ .«pending_greater») ≡ false) where
+    module _ (open₁ : closes lists (kindAt row at₁) (now₁ .«pending_greater») ≡ false) where
       abbrev after-nodes : Limited → Limited
-      after-nodes o = on-done o (λ x at′ half′ left′. argued-left cpp row (read cpp row) list lists nesting (now₁ .cursor) (now₁ .«pending_greater») x (eqb (kindAt row at′) Comma) at′ half′ left′) (λ e left′. denied e left′)
+      after-nodes o = on-done o (λ x at′ half′ left′. argued-left cpp row (read cpp row) list lists nesting at₁ half₁ x (eqb (kindAt row at′) Comma) at′ half′ left′) (λ e left′. denied e left′)
 
       list-first : rest-due cpp row lists nesting false now₁ list ≡ after-nodes (rest-due cpp row lists nesting false now₁ argument)
       unfolding next
       list-first =
-          turned cpp row list lists nesting false (now₁ .cursor) (now₁ .«pending_greater») (outer .way .within) (now₁ .left) first (sym (rw open₁))
-          ∙ limited-first cpp row (read cpp row) list lists nesting (now₁ .cursor) (now₁ .«pending_greater») (now₁ .left)
+          turned cpp row list lists nesting false at₁ half₁ (outer .way .within) (now₁ .left) first (sym (rw open₁))
+          ∙ limited-first cpp row (read cpp row) list lists nesting at₁ half₁ (now₁ .left)
 
       module _ {tree : List ℕ} {now : TypeSyntaxParser} {word : Bool} {i : ℕ} (inv : NodesLoop cpp row lists nesting (node-width * m) tree₁ now₁ tree now word i) where
-        nodes-denied : (e : Fault) (left : ℕ) → rest-due cpp row lists nesting word now argument ≡ denied e left → level-due cpp row list lists nesting p ≡ denied e left
+        nodes-denied : (e : Fault) (left : ℕ) → rest-due cpp row lists nesting word now argument ≡ denied e left → whole ≡ denied e left
         unfolding on-done
         nodes-denied e left q = arguments-denied e left (list-first ∙ ap after-nodes (reached-denied (inv .reached) e left q))
 
         -- The row ends.
-        pub unterminated : (closes lists (kindAt row (now .cursor)) (now .«pending_greater») || eqb (kindAt row (now .cursor)) Comma) ≡ false → kindAt row (now .cursor) ≡ NoToken
-            → (e : Fault) × (level-due cpp row list lists nesting p ≡ denied e (now .left))
+        pub unterminated : ends-at row lists now ≡ false → kindAt row (now .cursor) ≡ NoToken
+            → (e : Fault) × (whole ≡ denied e (now .left))
         unfolding next
         unterminated f k = (
           no-list,
           nodes-denied no-list (now .left) (turned-stops cpp row argument lists nesting word (now .cursor) (now .«pending_greater») (inv .way .within) (now .left) no-list (sym (rw (f, eq-eqb (kindAt row (now .cursor)) NoToken k)))),
         )
 
-        module _ (f : (closes lists (kindAt row (now .cursor)) (now .«pending_greater») || eqb (kindAt row (now .cursor)) Comma) ≡ false) (k : kindAt row (now .cursor) ≢ NoToken) where
+        module _ (f : ends-at row lists now ≡ false) (k : kindAt row (now .cursor) ≢ NoToken) where
           at-node : starts cpp word (kindAt row (now .cursor)) ≡ next cpp argument lists word (kindAt row (now .cursor)) (now .cursor) (now .«pending_greater»)
           unfolding next
           at-node = sym (rw (f, ne-eqb (kindAt row (now .cursor)) NoToken k))
 
-          nodes-stop : (s : Stop) → Denied (rest-due cpp row lists nesting false now₁ argument) s → (buf : List ℕ) → ListSays row (p .cursor) (level-due cpp row list lists nesting p) (listing-of (Stopped s)) buf
+          nodes-stop : (s : Stop) → Denied (rest-due cpp row lists nesting false now₁ argument) s → (buf : List ℕ) → ListSays row (p .cursor) (whole) (listing-of (Stopped s)) buf
           unfolding on-done
           nodes-stop (Refused e left) q buf = (refusal e, arguments-denied (refusal e) left (list-first ∙ ap after-nodes q))
           nodes-stop Spent q buf = downs ∙ reached-spent (outer .reached) (list-first ∙ ap after-nodes q)
 
           -- A node stops it.
           pub list-node-stops : {q : CodeReading.Reading} {s : Stop} {r : Listing} {buf buf′ : List ℕ} → q ≡ Stopped s → NodeAnswers cpp row lists nesting word now q buf → r ≡ listing-of q
-              → ListAnswers row (p .cursor) (level-due cpp row list lists nesting p) r buf′
+              → ListAnswers row (p .cursor) (whole) r buf′
           list-node-stops {s = s} {buf′ = buf′} e h l = record {
-            says = subst (λ (x : Listing). ListSays row (p .cursor) (level-due cpp row list lists nesting p) x buf′) (sym (l ∙ ap listing-of e)) (nodes-stop s (node-stop (inv .reached) (inv .way .within) at-node s (node-stopped e h)) buf′);
+            says = subst (λ (x : Listing). ListSays row (p .cursor) (whole) x buf′) (sym (l ∙ ap listing-of e)) (nodes-stop s (node-stop (inv .reached) (inv .way .within) at-node s (node-stopped e h)) buf′);
           }
 
           -- One node more.
           pub nodes-again : {kd : ℕ} → kd ≡ kindAt row (now .cursor) → {to : TypeSyntaxParser} {more : ℕ} (ys : List ℕ) → Found cpp row lists nesting word now to more ys
-              → length ys ≡ length (take (length tree - (node-width * m + node-width + node-width * i)) (drop (node-width * m + node-width + node-width * i) tree))
-              → node-width * m + node-width + node-width * i ≤ length tree
+              → length ys ≡ length (lent (behind-nodes m i) tree)
+              → behind-nodes m i ≤ length tree
               → NodesLoop cpp row lists nesting (node-width * m) tree₁ now₁
-              (take (node-width * m + node-width + node-width * i) tree ++ (ys ++ drop (length tree - (node-width * m + node-width + node-width * i)) (drop (node-width * m + node-width + node-width * i) tree))) to (eqb kd Identifier) (i + more)
+              (given-back (behind-nodes m i) tree ys) to (eqb kd Identifier) (i + more)
           unfolding count
           nodes-again {kd} ke {to} {more} ys fd kept room =
               let w = inv .way in
               let r = inv .reached in
               let room′ : node-width * more ≤ length ys = holds (node (fd .kind) (now .cursor) (fd .below) none) more ys (omega (arith, fd .counted)) (fd .written) in
               let e : node-width * (i + more) ≡ node-width * i + node-width * more = omega arith in
-              let s : ℕ = node-width * m + node-width + node-width * i in
+              let s : ℕ = behind-nodes m i in
               record {
                 long = simp (length-append, length-take, length-drop) (omega (arith, inv .long, kept, length-take (length tree - s) (drop s tree), length-drop s tree));
                 same = front (node-width * m) s tree (ys ++ drop (length tree - s) (drop s tree)) (omega arith) room ∙ inv .same;
@@ -219,14 +236,14 @@ module _ {cpp : Bool} {row : List ℕ} {lists nesting : ℕ} where
               }
 
         -- The argument ends here.
-        module _ (t : (closes lists (kindAt row (now .cursor)) (now .«pending_greater») || eqb (kindAt row (now .cursor)) Comma) ≡ true) where
+        module _ (t : ends-at row lists now ≡ true) where
           argument-done : rest-due cpp row lists nesting false now₁ argument ≡ done (inv .reached .nodes) (now .cursor) (now .«pending_greater») (now .left)
           unfolding next
           argument-done = reached-done (inv .reached) (now .cursor) (now .«pending_greater») (now .left)
               (turned-ends cpp row argument lists nesting word (now .cursor) (now .«pending_greater») (inv .way .within) (now .left) (now .cursor) (sym (rw t)))
 
           -- It is empty.
-          pub argument-empty : i ≡ 0 → (e : Fault) × (level-due cpp row list lists nesting p ≡ denied e (now .left))
+          pub argument-empty : i ≡ 0 → (e : Fault) × (whole ≡ denied e (now .left))
           unfolding on-done argued-left
           argument-empty z = (
             no-list,
@@ -234,23 +251,29 @@ module _ {cpp : Bool} {row : List ℕ} {lists nesting : ℕ} where
                 (list-first ∙ ap after-nodes (argument-done ∙ ap (λ (x : Nodes). done x (now .cursor) (now .«pending_greater») (now .left)) (count-none (inv .reached .nodes) (inv .reached .counted ∙ z)))),
           )
 
-          argument-is : rest-due cpp row lists nesting false now₁ list
-              ≡ argued-left cpp row (read cpp row) list lists nesting (now₁ .cursor) (now₁ .«pending_greater») (inv .reached .nodes) (eqb (kindAt row (now .cursor)) Comma) (now .cursor) (now .«pending_greater») (now .left)
+          -- What is due then, where a comma follows and where none does.
+          abbrev argued-so : (comma : Bool) → Limited
+          argued-so comma = argued-left cpp row (read cpp row) list lists nesting at₁ half₁ (inv .reached .nodes) comma (now .cursor) (now .«pending_greater») (now .left)
+
+          argument-is : rest-due cpp row lists nesting false now₁ list ≡ argued-so (eqb (kindAt row (now .cursor)) Comma)
           unfolding on-done
           argument-is = list-first ∙ ap after-nodes argument-done
 
           -- Its node is written before its nodes.
-          module _ (some : 0 < i) (ys zs : List ℕ) (put : ys ≡ 4 ∷ now₁ .cursor ∷ (i + 1) ∷ drop node-width (take (length tree - node-width * m) (drop (node-width * m) tree)))
-              (long′ : length ys ≡ length (take (length tree - node-width * m) (drop (node-width * m) tree))) (room : node-width * m + node-width + node-width * i ≤ length tree) where
-            argument-records : take (node-width * (m + i + 1)) (take (node-width * m) tree ++ (ys ++ zs)) ≡ records (outer .reached .nodes then node A-node (now₁ .cursor) (inv .reached .nodes) none)
+          module _ (some : 0 < i) (ys zs : List ℕ) (put : ys ≡ 4 ∷ at₁ ∷ (i + 1) ∷ drop node-width (lent (node-width * m) tree))
+              (long′ : length ys ≡ length (lent (node-width * m) tree)) (room : behind-nodes m i ≤ length tree) where
+            abbrev with-argument : Nodes
+            with-argument = outer .reached .nodes then node A-node at₁ (inv .reached .nodes) none
+
+            argument-records : take (node-width * (m + i + 1)) (take (node-width * m) tree ++ (ys ++ zs)) ≡ records with-argument
             unfolding number
             argument-records =
-                argument-written A-node (outer .reached .nodes) (inv .reached .nodes) (now₁ .cursor) m i 4 tree ys zs (inv .reached .counted) refl (inv .same ∙ outer .reached .written) (inv .reached .written) put
+                argument-written A-node (outer .reached .nodes) (inv .reached .nodes) at₁ m i 4 tree ys zs (inv .reached .counted) refl (inv .same ∙ outer .reached .written) (inv .reached .written) put
                 (long′ ∙ simp (length-take, length-drop) (omega arith)) room
 
-            argument-count : count (outer .reached .nodes then node A-node (now₁ .cursor) (inv .reached .nodes) none) ≡ m + i + 1
+            argument-count : count with-argument ≡ m + i + 1
             unfolding count
-            argument-count = then-count (outer .reached .nodes) (node A-node (now₁ .cursor) (inv .reached .nodes) none) ∙ omega (arith, outer .reached .counted, inv .reached .counted)
+            argument-count = then-count (outer .reached .nodes) (node A-node at₁ (inv .reached .nodes) none) ∙ omega (arith, outer .reached .counted, inv .reached .counted)
 
             -- A comma, and then the next argument.
             pub arguments-again : kindAt row (now .cursor) ≡ Comma → length (take (node-width * m) tree ++ (ys ++ zs)) ≡ length tree
@@ -264,34 +287,34 @@ module _ {cpp : Bool} {row : List ℕ} {lists nesting : ℕ} where
                   long = e ∙ inv .long ∙ outer .long;
                   way = record { forwards = omega arith; within = omega arith; size = omega arith };
                   reached = record {
-                    nodes = outer .reached .nodes then node A-node (now₁ .cursor) (inv .reached .nodes) none;
+                    nodes = with-argument;
                     is =
                         outer .reached .is
                         ∙ ap (ahead (outer .reached .nodes))
                         (argument-is
-                        ∙ ap (λ (b : Bool). argued-left cpp row (read cpp row) list lists nesting (now₁ .cursor) (now₁ .«pending_greater») (inv .reached .nodes) b (now .cursor) (now .«pending_greater») (now .left)) (eq-eqb (kindAt row (now .cursor)) Comma k)
-                        ∙ argued-comma cpp row lists nesting (now₁ .cursor) (now₁ .«pending_greater») (now .cursor) (now .«pending_greater») (now .left) (inv .reached .nodes) (omega (arith, inv .reached .counted))
-                        ∙ ap (λ (x : ℕ). behind A-node (now₁ .cursor) (inv .reached .nodes) (limited (now .left) (read cpp row list lists nesting false x (now .«pending_greater»)))) s)
-                        ∙ ahead-behind (outer .reached .nodes) A-node (now₁ .cursor) (inv .reached .nodes) _;
+                        ∙ ap argued-so (eq-eqb (kindAt row (now .cursor)) Comma k)
+                        ∙ argued-comma cpp row lists nesting at₁ half₁ (now .cursor) (now .«pending_greater») (now .left) (inv .reached .nodes) (omega (arith, inv .reached .counted))
+                        ∙ ap (λ (x : ℕ). behind A-node at₁ (inv .reached .nodes) (limited (now .left) (read cpp row list lists nesting false x (now .«pending_greater»)))) s)
+                        ∙ ahead-behind (outer .reached .nodes) A-node at₁ (inv .reached .nodes) _;
                     counted = argument-count;
                     written = argument-records;
                   };
                 }
 
             -- The list is closed.
-            pub arguments-closed : kindAt row (now .cursor) ≢ Comma → Closing row (p .cursor) (level-due cpp row list lists nesting p) (take (node-width * m) tree ++ (ys ++ zs)) now (m + i + 1)
+            pub arguments-closed : kindAt row (now .cursor) ≢ Comma → Closing row (p .cursor) (whole) (take (node-width * m) tree ++ (ys ++ zs)) now (m + i + 1)
             arguments-closed k =
                 let w = outer .way in
                 let v = inv .way in
                 record {
-                  nodes = outer .reached .nodes then node A-node (now₁ .cursor) (inv .reached .nodes) none;
+                  nodes = with-argument;
                   is =
                       downs ∙ outer .reached .is
                       ∙ ap (ahead (outer .reached .nodes))
                       (argument-is
-                      ∙ ap (λ (b : Bool). argued-left cpp row (read cpp row) list lists nesting (now₁ .cursor) (now₁ .«pending_greater») (inv .reached .nodes) b (now .cursor) (now .«pending_greater») (now .left)) (ne-eqb (kindAt row (now .cursor)) Comma k)
-                      ∙ argued-closed cpp row lists nesting (now₁ .cursor) (now₁ .«pending_greater») (now .cursor) (now .left) (inv .reached .nodes) (omega (arith, inv .reached .counted)) (now .«pending_greater»))
-                      ∙ ahead-done (outer .reached .nodes) (node A-node (now₁ .cursor) (inv .reached .nodes) none) _ _ _;
+                      ∙ ap argued-so (ne-eqb (kindAt row (now .cursor)) Comma k)
+                      ∙ argued-closed cpp row lists nesting at₁ half₁ (now .cursor) (now .left) (inv .reached .nodes) (omega (arith, inv .reached .counted)) (now .«pending_greater»))
+                      ∙ ahead-done (outer .reached .nodes) (node A-node at₁ (inv .reached .nodes) none) _ _ _;
                   counted = argument-count;
                   written = argument-records;
                   forwards = omega arith;

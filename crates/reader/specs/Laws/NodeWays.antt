@@ -64,34 +64,43 @@ pub past-cursor : {b : TypeSyntaxParser} (p : TypeSyntaxParser) (left : ℕ) →
 past-cursor p left e = ap (λ (x : TypeSyntaxParser). x .cursor) e
 
 module _ (cpp : Bool) (row : List ℕ) (lists nesting : ℕ) (word : Bool) (p : TypeSyntaxParser) where
+  abbrev at : ℕ
+  at = p .cursor
+
+  abbrev half : Bool
+  half = p .«pending_greater»
+
+  abbrev kind : ℕ
+  kind = kindAt row at
+
   abbrev gone : Level → ℕ → Next → Limited
-  gone l left nx = limited left (go cpp row (read cpp row) l lists nesting nx (p .cursor) (p .«pending_greater»))
+  gone l left nx = limited left (go cpp row (read cpp row) l lists nesting nx at half)
 
   -- No step is left.
   pub node-spends : p .left ≡ 0 → (l : Level) → node-due cpp row lists nesting word p l ≡ spent
   node-spends e l =
-      ap (λ (x : ℕ). gone l x (starts cpp word (kindAt row (p .cursor)))) e
-      ∙ none-left cpp row (read cpp row) l lists nesting (p .cursor) (p .«pending_greater») (starts cpp word (kindAt row (p .cursor))) (starts-costs cpp word (kindAt row (p .cursor)))
+      ap (λ (x : ℕ). gone l x (starts cpp word kind)) e
+      ∙ none-left cpp row (read cpp row) l lists nesting at half (starts cpp word kind) (starts-costs cpp word kind)
 
   -- The node is entered at `b`.
   module _ (some : p .left ≢ 0) {b : TypeSyntaxParser} (entered : b ≡ past p (p .left - 1)) where
-    enters : (nx : Next) → nx ≡ starts cpp word (kindAt row (p .cursor)) → (l : Level) → node-due cpp row lists nesting word p l ≡ gone l (suc (p .left - 1)) nx
+    enters : (nx : Next) → nx ≡ starts cpp word kind → (l : Level) → node-due cpp row lists nesting word p l ≡ gone l (suc (p .left - 1)) nx
     enters nx e l =
         let s : p .left ≡ suc (p .left - 1) = omega arith in
         ap (λ (x : Next). gone l (p .left) x) (sym e) ∙ ap (λ (x : ℕ). gone l x nx) s
 
     -- A token by itself.
-    pub node-token : {r buf : List ℕ} → started (kindAt row (p .cursor)) Start.Token ≡ starts cpp word (kindAt row (p .cursor)) → p .cursor < length row
-        → buf ≡ 0 ∷ p .cursor ∷ 1 ∷ r → Found cpp row lists nesting word p b 1 buf
+    pub node-token : {r buf : List ℕ} → started kind Start.Token ≡ starts cpp word kind → at < length row
+        → buf ≡ 0 ∷ at ∷ 1 ∷ r → Found cpp row lists nesting word p b 1 buf
     unfolding started count number
     node-token {buf = buf} e here w =
-        let s : suc (p .cursor) ≡ p .cursor + 1 = omega arith in
+        let s : suc at ≡ at + 1 = omega arith in
         subst (λ (x : TypeSyntaxParser). Found cpp row lists nesting word p x 1 buf) (sym entered) record {
           kind = T-node;
           below = none;
           is = λ l. enters _ e l
-              ∙ limited-token cpp row (read cpp row) l lists nesting (p .cursor) (p .«pending_greater») (p .left - 1) (eqb (kindAt row (p .cursor)) Identifier)
-              ∙ ap (λ (x : ℕ). behind T-node (p .cursor) none (limited (p .left - 1) (read cpp row l lists nesting (eqb (kindAt row (p .cursor)) Identifier) x (p .«pending_greater»)))) s;
+              ∙ limited-token cpp row (read cpp row) l lists nesting at half (p .left - 1) (eqb kind Identifier)
+              ∙ ap (λ (x : ℕ). behind T-node at none (limited (p .left - 1) (read cpp row l lists nesting (eqb kind Identifier) x half))) s;
           counted = refl;
           written = token-written T-node refl w;
           forwards = omega arith;
@@ -100,26 +109,26 @@ module _ (cpp : Bool) (row : List ℕ) (lists nesting : ℕ) (word : Bool) (p : 
         }
 
     -- A group, and a list that is tried, are read one level down.
-    below-due : (v : Level) (lists′ : ℕ) → limited (p .left - 1) (down cpp row (read cpp row) (leb (suc nesting) MAX-NESTING-DEPTH) v lists′ (suc nesting) (suc (p .cursor)) (p .«pending_greater»)) ≡ level-due cpp row v lists′ (nesting + 1) b
+    below-due : (v : Level) (lists′ : ℕ) → limited (p .left - 1) (down cpp row (read cpp row) (leb (suc nesting) MAX-NESTING-DEPTH) v lists′ (suc nesting) (suc at) half) ≡ level-due cpp row v lists′ (nesting + 1) b
     below-due v lists′ =
         let s : suc nesting ≡ nesting + 1 = omega arith in
-        let t : suc (p .cursor) ≡ p .cursor + 1 = omega arith in
-        ap (λ (x : ℕ). limited (p .left - 1) (down cpp row (read cpp row) (leb x MAX-NESTING-DEPTH) v lists′ x (suc (p .cursor)) (p .«pending_greater»))) s
-        ∙ ap (λ (x : ℕ). limited (p .left - 1) (down cpp row (read cpp row) (leb (nesting + 1) MAX-NESTING-DEPTH) v lists′ (nesting + 1) x (p .«pending_greater»))) t
+        let t : suc at ≡ at + 1 = omega arith in
+        ap (λ (x : ℕ). limited (p .left - 1) (down cpp row (read cpp row) (leb x MAX-NESTING-DEPTH) v lists′ x (suc at) half)) s
+        ∙ ap (λ (x : ℕ). limited (p .left - 1) (down cpp row (read cpp row) (leb (nesting + 1) MAX-NESTING-DEPTH) v lists′ (nesting + 1) x half)) t
         ∙ ap (level-due cpp row v lists′ (nesting + 1)) (sym entered)
 
     -- The node of what was read one level down.
-    module _ (k : NodeKind) {at extra : ℕ} {o : Limited} (not-word : false ≡ eqb (kindAt row (p .cursor)) Identifier)
+    module _ (k : NodeKind) {from extra : ℕ} {o : Limited} (not-word : false ≡ eqb kind Identifier)
         (due : (l : Level) (b : Nodes) (at′ : ℕ) (half′ : Bool) (left′ : ℕ) → o ≡ done b at′ half′ left′
-        → node-due cpp row lists nesting word p l ≡ behind k (p .cursor) b (limited left′ (read cpp row l lists nesting false at′ half′))) where
-      node-below : {now : TypeSyntaxParser} {n kn : ℕ} (tree ys zs : List ℕ) {buf : List ℕ} → Told row at extra o now n ys → at ≡ p .cursor + 1 → extra ≤ 1
-          → node-width ≤ length tree → kn ≡ number k → buf ≡ kn ∷ p .cursor ∷ (n + 1) ∷ drop node-width (take node-width tree ++ (ys ++ zs))
+        → node-due cpp row lists nesting word p l ≡ behind k at b (limited left′ (read cpp row l lists nesting false at′ half′))) where
+      node-below : {now : TypeSyntaxParser} {n kn : ℕ} (tree ys zs : List ℕ) {buf : List ℕ} → Told row from extra o now n ys → from ≡ at + 1 → extra ≤ 1
+          → node-width ≤ length tree → kn ≡ number k → buf ≡ kn ∷ at ∷ (n + 1) ∷ drop node-width (take node-width tree ++ (ys ++ zs))
           → Found cpp row lists nesting word p now (n + 1) buf
       node-below {now} {n} tree ys zs told a x room q w = record {
         kind = k;
         below = told .nodes;
         is = λ l. due l (told .nodes) (now .cursor) (now .«pending_greater») (now .left) (told .is)
-            ∙ ap (λ (u : Bool). behind k (p .cursor) (told .nodes) (limited (now .left) (read cpp row l lists nesting u (now .cursor) (now .«pending_greater»)))) not-word;
+            ∙ ap (λ (u : Bool). behind k at (told .nodes) (limited (now .left) (read cpp row l lists nesting u (now .cursor) (now .«pending_greater»)))) not-word;
         counted = omega (arith, told .counted);
         written = node-written k (told .nodes) tree ys zs room q (told .counted) (told .written) w;
         forwards = omega (arith, told .forwards);
@@ -128,23 +137,23 @@ module _ (cpp : Bool) (row : List ℕ) (lists nesting : ℕ) (word : Bool) (p : 
       }
 
     -- A group.
-    module _ (δ : Delimiter) (e : started (kindAt row (p .cursor)) (Start.Group δ) ≡ starts cpp word (kindAt row (p .cursor))) where
+    module _ (δ : Delimiter) (e : started kind (Start.Group δ) ≡ starts cpp word kind) where
       abbrev grouped : Level → Limited → Limited
-      grouped l o = on-done o (λ b at′ half′ left′. behind (node-of δ) (p .cursor) b (limited left′ (read cpp row l lists nesting false at′ half′))) (λ x left′. denied x left′)
+      grouped l o = on-done o (λ b at′ half′ left′. behind (node-of δ) at b (limited left′ (read cpp row l lists nesting false at′ half′))) (λ x left′. denied x left′)
 
       group-turn : (l : Level) → node-due cpp row lists nesting word p l ≡ grouped l (level-due cpp row (level-of (Opened δ)) lists (nesting + 1) b)
       unfolding started
       group-turn l =
           enters _ e l
-          ∙ limited-group cpp row (read cpp row) l lists nesting (p .cursor) (p .«pending_greater») (p .left - 1) (node-of δ) (level-of (Opened δ))
+          ∙ limited-group cpp row (read cpp row) l lists nesting at half (p .left - 1) (node-of δ) (level-of (Opened δ))
           ∙ ap (grouped l) (below-due (level-of (Opened δ)) lists)
 
       pub node-group : {now : TypeSyntaxParser} {n kn : ℕ} (tree ys zs : List ℕ) {buf : List ℕ} → Told row (b .cursor) 0 (level-due cpp row (level-of (Opened δ)) lists (nesting + 1) b) now n ys
-          → kn ≡ number (node-of δ) → buf ≡ kn ∷ p .cursor ∷ (n + 1) ∷ drop node-width (take node-width tree ++ (ys ++ zs)) → node-width ≤ length tree
+          → kn ≡ number (node-of δ) → buf ≡ kn ∷ at ∷ (n + 1) ∷ drop node-width (take node-width tree ++ (ys ++ zs)) → node-width ≤ length tree
           → Found cpp row lists nesting word p now (n + 1) buf
       unfolding on-done started
       node-group tree ys zs told q w room =
-          node-below (node-of δ) (no-word cpp word (kindAt row (p .cursor)) _ e (λ x. let z : _≡_ {A = ℕ} 0 1 = cc in absurd (omega arith)))
+          node-below (node-of δ) (no-word cpp word kind _ e (λ x. let z : _≡_ {A = ℕ} 0 1 = cc in absurd (omega arith)))
           (λ l b at′ half′ left′ d. group-turn l ∙ ap (grouped l) d)
           tree ys zs told (past-cursor p _ entered) (omega arith) room q w
 
@@ -153,46 +162,46 @@ module _ (cpp : Bool) (row : List ℕ) (lists nesting : ℕ) (word : Bool) (p : 
       group-denied (Refused x left) d l = group-turn l ∙ ap (grouped l) d
       group-denied Spent d l = group-turn l ∙ ap (grouped l) d
 
-      pub node-group-stops : {r : CodeReading.Reading} {s : Stop} {at : ℕ} {buf buf′ : List ℕ} → r ≡ Stopped s → GroupAnswers row at (level-due cpp row (level-of (Opened δ)) lists (nesting + 1) b) r buf
+      pub node-group-stops : {r : CodeReading.Reading} {s : Stop} {from : ℕ} {buf buf′ : List ℕ} → r ≡ Stopped s → GroupAnswers row from (level-due cpp row (level-of (Opened δ)) lists (nesting + 1) b) r buf
           → NodeAnswers cpp row lists nesting word p r buf′
       node-group-stops {s = s} e h = node-stops-so e (group-denied s (group-stopped e h))
 
     -- A list that is tried.
-    module _ (e : started (kindAt row (p .cursor)) Start.Angle ≡ starts cpp word (kindAt row (p .cursor))) where
+    module _ (e : started kind Start.Angle ≡ starts cpp word kind) where
       abbrev tried : Level → Limited → Limited
-      tried l o = on-done o (λ b at′ half′ left′. behind L-node (p .cursor) b (limited left′ (read cpp row l lists nesting false at′ half′)))
-          (λ x left′. behind T-node (p .cursor) none (limited left′ (read cpp row l lists nesting false (suc (p .cursor)) (p .«pending_greater»))))
+      tried l o = on-done o (λ b at′ half′ left′. behind L-node at b (limited left′ (read cpp row l lists nesting false at′ half′)))
+          (λ x left′. behind T-node at none (limited left′ (read cpp row l lists nesting false (suc at) half)))
 
       angle-turn : (l : Level) → node-due cpp row lists nesting word p l ≡ tried l (level-due cpp row list (lists + 1) (nesting + 1) b)
       unfolding started
       angle-turn l =
           let s : suc lists ≡ lists + 1 = omega arith in
           enters _ e l
-          ∙ limited-angle cpp row (read cpp row) l lists nesting (p .cursor) (p .«pending_greater») (p .left - 1)
+          ∙ limited-angle cpp row (read cpp row) l lists nesting at half (p .left - 1)
           ∙ ap (tried l) (below-due list (suc lists) ∙ ap (λ (x : ℕ). level-due cpp row list x (nesting + 1) b) s)
 
-      not-word : false ≡ eqb (kindAt row (p .cursor)) Identifier
+      not-word : false ≡ eqb kind Identifier
       unfolding started
-      not-word = no-word cpp word (kindAt row (p .cursor)) _ e (λ x. let z : _≡_ {A = ℕ} 0 1 = cc in absurd (omega arith))
+      not-word = no-word cpp word kind _ e (λ x. let z : _≡_ {A = ℕ} 0 1 = cc in absurd (omega arith))
 
       pub node-list : {now : TypeSyntaxParser} {n : ℕ} (tree ys zs : List ℕ) {buf : List ℕ} → Told row (b .cursor) 1 (level-due cpp row list (lists + 1) (nesting + 1) b) now n ys
-          → buf ≡ 3 ∷ p .cursor ∷ (n + 1) ∷ drop node-width (take node-width tree ++ (ys ++ zs)) → node-width ≤ length tree
+          → buf ≡ 3 ∷ at ∷ (n + 1) ∷ drop node-width (take node-width tree ++ (ys ++ zs)) → node-width ≤ length tree
           → Found cpp row lists nesting word p now (n + 1) buf
       unfolding on-done number
       node-list tree ys zs told w room =
           node-below L-node not-word (λ l b at′ half′ left′ d. angle-turn l ∙ ap (tried l) d) tree ys zs told (past-cursor p _ entered) (omega arith) room refl w
 
-      pub node-no-list : {left : ℕ} {c : TypeSyntaxParser} {r buf : List ℕ} → c ≡ past p left → (x : Fault) × (level-due cpp row list (lists + 1) (nesting + 1) b ≡ denied x left) → p .cursor < length row
-          → buf ≡ 0 ∷ p .cursor ∷ 1 ∷ r → Found cpp row lists nesting word p c 1 buf
+      pub node-no-list : {left : ℕ} {c : TypeSyntaxParser} {r buf : List ℕ} → c ≡ past p left → (x : Fault) × (level-due cpp row list (lists + 1) (nesting + 1) b ≡ denied x left) → at < length row
+          → buf ≡ 0 ∷ at ∷ 1 ∷ r → Found cpp row lists nesting word p c 1 buf
       unfolding on-done count number
       node-no-list {left} {buf = buf} back d here w =
-          let s : suc (p .cursor) ≡ p .cursor + 1 = omega arith in
+          let s : suc at ≡ at + 1 = omega arith in
           subst (λ (x : TypeSyntaxParser). Found cpp row lists nesting word p x 1 buf) (sym back) record {
             kind = T-node;
             below = none;
             is = λ l. angle-turn l ∙ ap (tried l) (d .1)
-                ∙ ap (λ (x : ℕ). behind T-node (p .cursor) none (limited left (read cpp row l lists nesting false x (p .«pending_greater»)))) s
-                ∙ ap (λ (u : Bool). behind T-node (p .cursor) none (limited left (read cpp row l lists nesting u (p .cursor + 1) (p .«pending_greater»)))) not-word;
+                ∙ ap (λ (x : ℕ). behind T-node at none (limited left (read cpp row l lists nesting false x half))) s
+                ∙ ap (λ (u : Bool). behind T-node at none (limited left (read cpp row l lists nesting u (p .cursor + 1) half))) not-word;
             counted = refl;
             written = token-written T-node refl w;
             forwards = omega arith;

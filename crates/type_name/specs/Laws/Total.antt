@@ -29,13 +29,13 @@ use Rattle.prescan.specs.Prescan.{Scanned, passed, prescan}
 use Rattle.prescan.specs.Prescan
 use Rattle.prescan.specs.Laws.Numbered.{prescan-numbered}
 use Rattle.prescan.specs.Laws.Numbered
-use Rattle.reader.specs.Nodes.{Nodes}
+use Rattle.reader.specs.Nodes.{Nodes, numbers-per-token}
 use Rattle.reader.specs.Reading.{Got, got, bad, Fault, refusal, no-list, reading}
 use Rattle.reader.specs.Laws.Numbered.{FaultNumbered, reading-numbered}
 use Rattle.reader.specs.Laws.Numbered as Read
 use Rattle.structure.specs.Moves.{Said, holds, fails}
 use Rattle.profile.specs.Profile.{Lack, nothing, lacks, missing-feature}
-use Rattle.type_name.specs.Answers.{RowAnswer, accepted, refused, refusal-of, after-structure, after-reading, structure-of, whole-row, after-prescan, from-prescan, unlimited, limited, answerOf, Outcome, untouched, read, numbers-per-token, of-row, of-records, of-head, outcome, answer-in, answer, filled, buffer-in, final-buffer}
+use Rattle.type_name.specs.Answers.{RowAnswer, accepted, refused, refusal-of, after-structure, after-reading, structure-of, whole-row, after-prescan, from-prescan, unlimited, limited, answerOf, Outcome, untouched, read, of-row, of-records, of-head, outcome, answer-in, answer, filled, buffer-in, final-buffer}
 
 -- ---- the numbers
 

@@ -1,0 +1,63 @@
+-- `too_often` meets its contract. Assumes nothing.
+use Prim.Native.Nat.{_-_, _≤_}
+use mathlib.Core.Path.{_≡_, refl, sym, _∙_}
+use native.Mathlib.Omega.{arith}
+use borrow.Author.Needs.{needs}
+use lib.ListN.{length, drop}
+use Rattle.structure.specs.Specifiers.{too-often}
+use Rattle.structure.specs.Laws.Counts.{one-too-often, one-not-too-often, not-often}
+use Rattle.structure.proofs.combination.too_often.Statement.{statement}
+use Rattle.structure.proofs.combination.too_often.Tie as tie
+use Rattle.structure.proofs.combination.too_often.Reads as reads
+use Rattle.structure.proofs.combination.too_often.Lts as lts
+use Rattle.structure.proofs.combination.most.Reads as most-reads
+use Rattle.structure.proofs.combination.times.Reads as times-reads
+
+abbrev Inv-loop : tie.InvT-loop
+Inv-loop seen words i₀ i = (i ≤ length words) × (too-often words seen ≡ too-often (drop i words) seen)
+
+abbrev μ-loop : tie.MeasureT-loop
+μ-loop seen words i₀ i = length words - i
+
+loop-holds : tie.Need-loop-holds Inv-loop μ-loop
+loop-holds c = (omega arith, refl)
+
+shared-slice-read-word : tie.Need-shared-slice-read-word Inv-loop μ-loop
+shared-slice-read-word c = omega arith
+
+most-requires : tie.Need-most-requires Inv-loop μ-loop
+most-requires c κs = omega arith
+
+times-requires : tie.Need-times-requires Inv-loop μ-loop
+times-requires c κs = c .before .before .before .before .before .pre _ (omega arith)
+
+returns : tie.Need-returns Inv-loop μ-loop
+returns c = one-too-often (c .before .before .before .before .before .before .before .args .words .now) (c .before .before .before .before .before .before .before .args .seen .now) (c .before .before .before .before .before .loop .i) (omega arith) (c .before .before .most .ensures) (c .before .times .ensures) (c .if1 .taken) (c .before .before .before .before .before .loop .inv .1)
+
+add-i : tie.Need-add-i Inv-loop μ-loop
+add-i c = omega arith
+
+loop-less : tie.Need-loop-less Inv-loop μ-loop
+loop-less c = omega arith
+
+loop-again : tie.Need-loop-again Inv-loop μ-loop
+loop-again c = (omega arith, one-not-too-often (c .before .before .before .before .before .before .before .args .words .now) (c .before .before .before .before .before .before .before .args .seen .now) (c .before .before .before .before .before .loop .i) (omega arith) (c .before .before .most .ensures) (c .before .times .ensures) (c .if1 .left) (c .before .before .before .before .before .loop .inv .1))
+
+returns-2 : tie.Need-returns-2 Inv-loop μ-loop
+returns-2 c = not-often (c .before .before .before .args .words .now) (c .before .before .before .args .seen .now) (c .before .loop .i) (omega arith) (c .before .loop .inv .1)
+
+pub too-often-spec : {M : Type 1} → statement M
+too-often-spec =
+    tie.close
+    (tie.spec
+    Inv-loop
+    μ-loop
+    loop-holds
+    shared-slice-read-word
+    most-requires
+    times-requires
+    returns
+    add-i
+    loop-less
+    loop-again
+    returns-2)

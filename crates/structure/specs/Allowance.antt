@@ -1,0 +1,14 @@
+-- A check under an allowance of steps: document 01, "Steps".
+-- Assumes nothing.
+use Prim.Native.Nat.{ℕ, _-_}
+use mathlib.Core.Bool.{Bool, true, false}
+use lib.Dec.{leb}
+use Rattle.rows.specs.Notation.{if_then_else_}
+use Rattle.structure.specs.Moves.{Said, holds, fails}
+use Rattle.structure.specs.declared.moves.Verdict.{Verdict}
+use Rattle.structure.specs.declared.moves.Verdict.the-variants.{Holds, Fails, Spent}
+
+-- What comes of a check when so many steps are left.
+unfoldable pub limited : (left : ℕ) → Said → Verdict
+limited left (holds m) = if leb m left then Holds (left - m) else Spent
+limited left (fails m) = if leb m left then Fails (left - m) else Spent

@@ -1,0 +1,191 @@
+// What a check does at a node, and what it comes to: specs/Moves.antt.
+
+ghost use mathlib.Core.Path.{_≡_};
+ghost use Rattle.structure.specs.Moves.{on-if, inside-if, plain};
+ghost use Rattle.structure.specs.Declarators.{type-state, declarator-state};
+ghost use Rattle.structure.specs.Expressions.{expression-state};
+ghost use Rattle.structure.specs.Represented.{test-of, type-move-of, declarator-move-of, Moves};
+ghost use Rattle.structure.specs.Allowance.{limited};
+
+// `Holds` and `Fails` with the steps that are left; `Spent`: the allowance did not last.
+pub enum Verdict {
+    Holds(usize),
+    Fails(usize),
+    Spent,
+}
+
+// What is asked of the nodes below a node.
+pub enum Inner {
+    TypeName,
+    Expression,
+    SomeExpression,
+    OptionalExpression,
+    TypeOrExpression,
+    ArrayBound,
+    Declarator,
+    Arguments,
+    Selectors,
+    DeclaratorOrParameters(bool),
+}
+
+// The variables of `validate_c_family_type`.
+pub struct TypeLoop {
+    pub word: bool,
+    pub started: bool,
+    pub reference: bool,
+}
+
+// The variables of `validate_abstract_declarator`.
+pub struct DeclaratorLoop {
+    pub operator: bool,
+    pub reference: bool,
+}
+
+// The variables of `validate_expression`.
+pub struct ExpressionLoop {
+    pub operand: bool,
+    pub access: bool,
+    pub depth: usize,
+}
+
+// The variables of `validate_fortran_type`.
+pub struct FortranLoop {
+    pub word: bool,
+    pub selector: bool,
+}
+
+pub enum TypeMove {
+    Stop(bool),
+    On(TypeLoop),
+    Inside(Inner, TypeLoop),
+}
+
+pub enum DeclaratorMove {
+    Stop(bool),
+    On(DeclaratorLoop),
+    Inside(Inner, DeclaratorLoop),
+}
+
+pub enum ExpressionMove {
+    Stop(bool),
+    On(ExpressionLoop),
+    Inside(Inner, ExpressionLoop),
+}
+
+pub enum FortranMove {
+    Stop(bool),
+    On(FortranLoop),
+    Inside(Inner, FortranLoop),
+}
+
+// A condition, tested without a step.
+pub fn plain(holds: bool, left: usize) -> Verdict
+    ensures { λ r. ⌜ r ≡ limited left (plain holds) ⌝ }
+{
+    if holds {
+        return Verdict::Holds(left);
+    }
+    Verdict::Fails(left)
+}
+
+pub fn type_on_if(ok: bool, word: bool, started: bool, reference: bool) -> TypeMove
+    ensures { λ r. ⌜ type-move-of r ≡ on-if ok (type-state word started reference) ⌝ }
+{
+    if ok {
+        return TypeMove::On(TypeLoop {
+            word,
+            started,
+            reference,
+        });
+    }
+    TypeMove::Stop(false)
+}
+
+pub fn type_inside_if(
+    ok: bool,
+    inner: Inner,
+    word: bool,
+    started: bool,
+    reference: bool,
+) -> TypeMove
+    ensures { λ r. ⌜ type-move-of r ≡ inside-if ok (test-of inner) (type-state word started reference) ⌝ }
+{
+    if ok {
+        return TypeMove::Inside(
+            inner,
+            TypeLoop {
+                word,
+                started,
+                reference,
+            },
+        );
+    }
+    TypeMove::Stop(false)
+}
+
+pub fn declarator_on_if(ok: bool, operator: bool, reference: bool) -> DeclaratorMove
+    ensures { λ r. ⌜ declarator-move-of r ≡ on-if ok (declarator-state operator reference) ⌝ }
+{
+    if ok {
+        return DeclaratorMove::On(DeclaratorLoop {
+            operator,
+            reference,
+        });
+    }
+    DeclaratorMove::Stop(false)
+}
+
+pub fn declarator_inside_if(
+    ok: bool,
+    inner: Inner,
+    operator: bool,
+    reference: bool,
+) -> DeclaratorMove
+    ensures { λ r. ⌜ declarator-move-of r ≡ inside-if ok (test-of inner) (declarator-state operator reference) ⌝ }
+{
+    if ok {
+        return DeclaratorMove::Inside(
+            inner,
+            DeclaratorLoop {
+                operator,
+                reference,
+            },
+        );
+    }
+    DeclaratorMove::Stop(false)
+}
+
+pub fn expression_on_if(ok: bool, operand: bool, access: bool, depth: usize) -> ExpressionMove
+    ensures { λ r. ⌜ Moves depth r (on-if ok (expression-state operand access depth)) ⌝ }
+{
+    if ok {
+        return ExpressionMove::On(ExpressionLoop {
+            operand,
+            access,
+            depth,
+        });
+    }
+    ExpressionMove::Stop(false)
+}
+
+pub fn expression_inside_if(
+    ok: bool,
+    inner: Inner,
+    operand: bool,
+    access: bool,
+    depth: usize,
+) -> ExpressionMove
+    ensures { λ r. ⌜ Moves depth r (inside-if ok (test-of inner) (expression-state operand access depth)) ⌝ }
+{
+    if ok {
+        return ExpressionMove::Inside(
+            inner,
+            ExpressionLoop {
+                operand,
+                access,
+                depth,
+            },
+        );
+    }
+    ExpressionMove::Stop(false)
+}

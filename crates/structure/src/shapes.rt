@@ -1,0 +1,10 @@
+// Shapes: what a node is to the rules is one number. The shape of a T is the kind of its token.
+
+// Where there is no node.
+pub const NO_NODE: u8 = 58;
+
+pub const PARENTHESIZED: u8 = 59;
+
+pub const BRACKETED: u8 = 60;
+
+pub const TEMPLATE_ARGUMENTS: u8 = 61;

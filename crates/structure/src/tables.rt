@@ -1,0 +1,170 @@
+// What the loops do at a node: one arm of the original's `match` after another. `left`, `right`: shape of the node before and after the node; `before`:
+// word of the node before it.
+
+use crate::moves::DeclaratorLoop;
+use crate::moves::DeclaratorMove;
+use crate::moves::Inner;
+use crate::moves::TypeLoop;
+use crate::moves::TypeMove;
+use crate::moves::declarator_inside_if;
+use crate::moves::declarator_on_if;
+use crate::moves::type_inside_if;
+use crate::moves::type_on_if;
+use crate::sets::is_c_family_declarator_qualifier;
+use crate::sets::is_reference_operator;
+use crate::sets::is_typeof_word;
+use crate::shapes::BRACKETED;
+use crate::shapes::NO_NODE;
+use crate::shapes::PARENTHESIZED;
+use crate::shapes::TEMPLATE_ARGUMENTS;
+use crate::words::ATOMIC;
+use crate::words::BIT_INT;
+use crate::words::DECLTYPE;
+use crate::words::NOEXCEPT;
+use rows::kinds::IDENTIFIER;
+use rows::kinds::SCOPE;
+use rows::kinds::STAR;
+use rows::languages::C;
+use rows::languages::CPP;
+ghost use mathlib.Core.Path.{_≡_};
+ghost use Rattle.structure.specs.Declarators.{scope-has-valid-neighbors, is-part-of-name, abstract-declarator-node, c-family-group, c-family-node};
+ghost use Rattle.structure.specs.Represented.{declarator-move-of, declarator-state-of, type-move-of, type-state-of};
+
+fn scope_has_valid_neighbors(left: u8, right: u8) -> bool
+    ensures { λ r. ⌜ r ≡ scope-has-valid-neighbors left right ⌝ }
+{
+    ((left == NO_NODE) | (left == IDENTIFIER) | (left == TEMPLATE_ARGUMENTS))
+        & ((right == IDENTIFIER) | (right == STAR))
+}
+
+fn is_part_of_name(left: u8, right: u8) -> bool
+    ensures { λ r. ⌜ r ≡ is-part-of-name left right ⌝ }
+{
+    (right == SCOPE) | (right == TEMPLATE_ARGUMENTS) | (left == SCOPE)
+}
+
+pub fn abstract_declarator_node(
+    language: u8,
+    left: u8,
+    shape: u8,
+    word: u8,
+    right: u8,
+    st: DeclaratorLoop,
+) -> DeclaratorMove
+    ensures { λ r. ⌜ declarator-move-of r ≡ abstract-declarator-node language left shape word right (declarator-state-of st) ⌝ }
+{
+    let operator = st.operator;
+    let reference = st.reference;
+    if shape == STAR {
+        return declarator_on_if(!reference, true, reference);
+    }
+    if is_reference_operator(shape) {
+        return declarator_on_if((language == CPP) & !reference, true, true);
+    }
+    if shape == IDENTIFIER {
+        let known = is_c_family_declarator_qualifier(word);
+        return declarator_on_if(known | is_part_of_name(left, right), operator, reference);
+    }
+    if shape == SCOPE {
+        let good = scope_has_valid_neighbors(left, right);
+        return declarator_on_if((language == CPP) & good, operator, reference);
+    }
+    if shape == TEMPLATE_ARGUMENTS {
+        return declarator_inside_if(
+            (language == CPP) & (left == IDENTIFIER),
+            Inner::Arguments,
+            operator,
+            reference,
+        );
+    }
+    if shape == PARENTHESIZED {
+        return declarator_inside_if(true, Inner::Declarator, true, reference);
+    }
+    declarator_inside_if(shape == BRACKETED, Inner::ArrayBound, true, reference)
+}
+
+// Parentheses start the declarator, but not those after `_BitInt`.
+fn c_family_group(language: u8, before: u8, st: TypeLoop) -> TypeMove
+    ensures { λ r. ⌜ type-move-of r ≡ c-family-group language before (type-state-of st) ⌝ }
+{
+    let word = st.word;
+    let started = st.started;
+    let reference = st.reference;
+    if before == DECLTYPE {
+        return type_inside_if(language == CPP, Inner::Expression, word, true, reference);
+    }
+    if is_typeof_word(before) {
+        return type_inside_if(true, Inner::TypeOrExpression, word, true, reference);
+    }
+    if before == ATOMIC {
+        return type_inside_if(language == C, Inner::TypeName, word, true, reference);
+    }
+    if before == BIT_INT {
+        return type_inside_if(language == C, Inner::Expression, word, started, reference);
+    }
+    if (before == NOEXCEPT) & started {
+        return type_inside_if(
+            language == CPP,
+            Inner::OptionalExpression,
+            word,
+            true,
+            reference,
+        );
+    }
+    type_inside_if(
+        true,
+        Inner::DeclaratorOrParameters(word),
+        word,
+        true,
+        reference,
+    )
+}
+
+pub fn c_family_node(
+    language: u8,
+    left: u8,
+    before: u8,
+    shape: u8,
+    word: u8,
+    right: u8,
+    st: TypeLoop,
+) -> TypeMove
+    ensures { λ r. ⌜ type-move-of r ≡ c-family-node language left before shape word right (type-state-of st) ⌝ }
+{
+    let seen = st.word;
+    let started = st.started;
+    let reference = st.reference;
+    if shape == IDENTIFIER {
+        let known = is_c_family_declarator_qualifier(word);
+        return type_on_if(!started | known, true, started, reference);
+    }
+    if shape == SCOPE {
+        let good = scope_has_valid_neighbors(left, right);
+        return type_on_if((language == CPP) & good, seen, started, reference);
+    }
+    if shape == TEMPLATE_ARGUMENTS {
+        return type_inside_if(
+            (language == CPP) & (left == IDENTIFIER),
+            Inner::Arguments,
+            true,
+            started,
+            reference,
+        );
+    }
+    if shape == STAR {
+        return type_on_if(seen & !reference, seen, true, reference);
+    }
+    if is_reference_operator(shape) {
+        return type_on_if((language == CPP) & seen & !reference, seen, true, true);
+    }
+    if shape == PARENTHESIZED {
+        return c_family_group(language, before, st);
+    }
+    type_inside_if(
+        (shape == BRACKETED) & seen,
+        Inner::ArrayBound,
+        seen,
+        true,
+        reference,
+    )
+}
