@@ -6,3 +6,4 @@ pub mod KnownWords
 pub mod KnownTable
 pub mod KnownSearch
 pub mod RowLoop
+pub mod RowFacts

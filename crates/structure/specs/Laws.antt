@@ -5,3 +5,6 @@ pub mod Ranges
 pub mod Commas
 pub mod Limits
 pub mod Tables
+pub mod Found
+pub mod Waits
+pub mod Heads

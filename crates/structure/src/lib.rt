@@ -1,6 +1,8 @@
 // The structure check: does a tree name a type (refusal 30), and in how many steps. Its definitions are in specs/.
 
 pub mod combination;
+pub mod expressions;
+pub mod fortran;
 pub mod moves;
 pub mod nodes;
 pub mod sets;

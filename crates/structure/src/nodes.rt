@@ -1,5 +1,6 @@
 // The nodes of a level, read from the node records of a tree: a level is a range of node numbers.
 
+use crate::sets::is_declarator_start;
 use crate::shapes::NO_NODE;
 use crate::words::NO_WORD;
 use reader::nodes::NODE_WIDTH;
@@ -7,10 +8,13 @@ use reader::nodes::TOKEN_NODE;
 use rows::kinds::COMMA;
 use rows::kinds::DOT;
 use rows::kinds::IDENTIFIER;
+use rows::kinds::SCOPE;
+use rows::kinds::STAR;
 ghost use mathlib.Core.Path.{_≡_};
 ghost use Prim.Native.Nat.{_+_, _<_, suc};
 ghost use Rattle.reader.specs.Nodes.{count};
-ghost use Rattle.structure.specs.Shapes.{shape, node-identifier, is-single-token, is-ellipsis, split-on-commas, parts-are-full};
+ghost use Rattle.structure.specs.Shapes.{shape, any, node-identifier, is-single-token, is-ellipsis, split-on-commas, parts-are-full};
+ghost use Rattle.structure.specs.Declarators.{looks-like-abstract-declarator};
 ghost use Rattle.structure.specs.Stands.{Formed, Ready, Of, Finds, below};
 
 // `next`: where the nodes after the node begin.
@@ -141,4 +145,30 @@ pub fn parts_are_full(tree: &[u32], kinds: &[u8], from: usize, to: usize) -> boo
         at = next;
     }
     some
+}
+
+// Some node of a level has a shape.
+fn any(tree: &[u32], kinds: &[u8], wanted: u8, from: usize, to: usize) -> bool
+    requires { ⌜ Formed (now tree) (now kinds) from to ⌝ }
+    ensures { λ r. ⌜ Of (now (tree .entry)) (now (kinds .entry)) from to (λ x. r ≡ any (now (kinds .entry)) wanted x) ⌝ }
+{
+    let mut at = from;
+    while at < to {
+        let shape = shape_at(tree, kinds, at, to);
+        let next = node_end(tree, kinds, at, to);
+        if shape == wanted {
+            return true;
+        }
+        at = next;
+    }
+    false
+}
+
+pub fn looks_like_abstract_declarator(tree: &[u32], kinds: &[u8], from: usize, to: usize) -> bool
+    requires { ⌜ Formed (now tree) (now kinds) from to ⌝ }
+    ensures { λ r. ⌜ Of (now (tree .entry)) (now (kinds .entry)) from to (λ x. r ≡ looks-like-abstract-declarator (now (kinds .entry)) x) ⌝ }
+{
+    let scope = any(tree, kinds, SCOPE, from, to);
+    let star = any(tree, kinds, STAR, from, to);
+    is_declarator_start(shape_at(tree, kinds, from, to)) | (scope & star)
 }

@@ -85,3 +85,6 @@ pub const TYPE: u8 = 40;
 pub const PRECISION: u8 = 41;
 
 pub const COMPLEX: u8 = 42;
+
+// Added to the number of a word that is known with case ignored only.
+pub const OTHER_CASE: u8 = 128;

@@ -100,6 +100,7 @@ pub record Fits (f : Format) (file : List ℕ) (at k n : ℕ) : Type 0 where
   pub known : k ≤ End
   pub long : token-length f ≤ n
   pub inside : at + n ≤ length file
+  pub wordless : (k ≡ Identifier → ⊥) → n ≡ token-length f
 
 abbrev kind-in : TokenRecord → ℕ
 kind-in (Formed k n) = k
@@ -127,6 +128,11 @@ module _ (f : Format) (file : List ℕ) (at : ℕ) where
       let same : length-at f file at ≡ token-length f = eqb→eq (length-at f file at) (token-length f) t in
       (omega (arith, same), omega (arith, same)))
 
+  -- a record of another kind than 0 is as long as a record without a word
+  plain-length : T (length-fits f file at) → (kind-at f file at ≡ Identifier → ⊥) → length-at f file at ≡ token-length f
+  unfolding length-fits
+  plain-length t d = eqb→eq (length-at f file at) (token-length f) (rw (ne-eqb (kind-at f file at) Identifier d) at t)
+
   formed-fits′ : (b : Bool) → well-formed f file at ≡ b → (k n : ℕ) → (if b then Formed (kind-at f file at) (length-at f file at) else Malformed) ≡ Formed k n → Fits f file at k n
   unfolding well-formed
   formed-fits′ false w k n e = let clash : _≡_ {A = ℕ} 0 1 = ap is-formed e in absurd (omega (arith, clash))
@@ -144,6 +150,7 @@ module _ (f : Format) (file : List ℕ) (at : ℕ) where
         known = omega (arith, same-kind, leb→le (kind-at f file at) End (x .1));
         long = omega (arith, same-length, l .0);
         inside = omega (arith, same-length, l .1);
+        wordless = λ d. sym same-length ∙ plain-length (u .1) (λ q. d (sym same-kind ∙ q));
       }
 
   pub formed-fits : (k n : ℕ) → found f file at ≡ Formed k n → Fits f file at k n

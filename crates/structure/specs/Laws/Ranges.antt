@@ -169,7 +169,7 @@ identifier-of kinds words none h = absurd (true≢false h)
 identifier-of kinds words (node k i b y) h = refl
 
 module _ {tree kinds : List ℕ} {at to : ℕ} {x : Nodes} (s : Stands tree kinds at to x) where
-  there : empty x ≡ false → at < to
+  pub there : empty x ≡ false → at < to
   unfolding empty
   there h = started s h
     where

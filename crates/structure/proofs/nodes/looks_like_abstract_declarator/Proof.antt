@@ -1,0 +1,33 @@
+-- `looks_like_abstract_declarator` meets its contract. Assumes nothing.
+use native.Mathlib.Omega.{arith}
+use borrow.Author.Needs.{needs}
+use Rattle.structure.specs.Declarators.{looks-like-abstract-declarator}
+use borrow.Author.Needs.{needs}
+use Rattle.structure.proofs.nodes.looks_like_abstract_declarator.Statement.{statement}
+use Rattle.structure.proofs.nodes.looks_like_abstract_declarator.Tie as tie
+use Rattle.structure.proofs.nodes.looks_like_abstract_declarator.Reads as reads
+use Rattle.structure.proofs.nodes.looks_like_abstract_declarator.Lts as lts
+use Rattle.structure.proofs.nodes.any.Reads as any-reads
+use Rattle.structure.proofs.nodes.shape_at.Reads as shape-at-reads
+use Rattle.structure.proofs.sets.is_declarator_start.Reads as is-declarator-start-reads
+
+any-requires : tie.Need-any-requires
+any-requires c κs = search needs
+
+any-requires-2 : tie.Need-any-requires-2
+any-requires-2 c κs = search needs
+
+shape-at-requires : tie.Need-shape-at-requires
+shape-at-requires c κs = search needs
+
+is-declarator-start-requires : tie.Need-is-declarator-start-requires
+is-declarator-start-requires c κs = search needs
+
+returns : tie.Need-returns
+unfolding looks-like-abstract-declarator
+returns c = λ x s. rw (c .is-declarator-start .ensures, c .before .shape-at .ensures x s, c .before .before .before .any .ensures x s, c .before .before .any2 .ensures x s)
+
+pub looks-like-abstract-declarator-spec : {M : Type 1} → statement M
+looks-like-abstract-declarator-spec =
+    tie.close
+    (tie.spec any-requires any-requires-2 shape-at-requires is-declarator-start-requires returns)

@@ -1,0 +1,99 @@
+// The head of a Fortran type name, and what the loop of `validate_fortran_type` does at a node.
+
+use crate::moves::FortranLoop;
+use crate::moves::FortranMove;
+use crate::moves::Inner;
+use crate::nodes::Lookup;
+use crate::nodes::node_at;
+use crate::nodes::node_identifier;
+use crate::nodes::shape_at;
+use crate::sets::is_derived_type_word;
+use crate::sets::is_word_after_double;
+use crate::shapes::PARENTHESIZED;
+use crate::words::DOUBLE;
+use crate::words::OTHER_CASE;
+use rows::kinds::IDENTIFIER;
+use rows::kinds::STAR;
+ghost use mathlib.Core.Path.{_≡_};
+ghost use Rattle.rows.specs.Words.{ignoring-case};
+ghost use Rattle.structure.specs.FortranTypes.{fortran-node, fortran-head, validate-fortran-type-head};
+ghost use Rattle.structure.specs.Represented.{fortran-move-of, fortran-state-of};
+ghost use Rattle.structure.specs.Stands.{Ready, Of};
+
+// `last`: one node follows, an integer.
+pub fn fortran_node(shape: u8, last: bool, st: FortranLoop) -> FortranMove
+    ensures { λ r. ⌜ fortran-move-of r ≡ fortran-node shape last (fortran-state-of st) ⌝ }
+{
+    let word = st.word;
+    let selector = st.selector;
+    if shape == IDENTIFIER {
+        return FortranMove::On(FortranLoop {
+            word: true,
+            selector,
+        });
+    }
+    if (shape == PARENTHESIZED) & word & !selector {
+        return FortranMove::Inside(
+            Inner::Selectors,
+            FortranLoop {
+                word,
+                selector: true,
+            },
+        );
+    }
+    if (shape == STAR) & word & last {
+        return FortranMove::Stop(true);
+    }
+    FortranMove::Stop(false)
+}
+
+// Which known word it is with case ignored, by its number.
+fn ignoring_case(number: u8) -> u8
+    ensures { λ r. ⌜ r ≡ ignoring-case number ⌝ }
+{
+    if number < OTHER_CASE {
+        return number;
+    }
+    number - OTHER_CASE
+}
+
+// `second`: the word after it.
+fn head_holds(shape: u8, word: u8, right: u8, second: u8) -> bool
+    ensures { λ r. ⌜ r ≡ fortran-head shape word right second ⌝ }
+{
+    if shape != IDENTIFIER {
+        return false;
+    }
+    if is_derived_type_word(word) {
+        return right == PARENTHESIZED;
+    }
+    if word == DOUBLE {
+        return is_word_after_double(second);
+    }
+    !(right == IDENTIFIER)
+}
+
+pub fn validate_fortran_type_head(
+    tree: &[u32],
+    kinds: &[u8],
+    words: &[u8],
+    from: usize,
+    to: usize,
+) -> bool
+    requires { ⌜ Ready (now tree) (now kinds) (now words) from to ⌝ }
+    ensures { λ r. ⌜ Of (now (tree .entry)) (now (kinds .entry)) from to (λ x. r ≡ validate-fortran-type-head (now (kinds .entry)) (now (words .entry)) x) ⌝ }
+{
+    let found = node_at(tree, kinds, from, to);
+    let Lookup::Node {
+        shape,
+        token: _,
+        next,
+    } = found
+    else {
+        return false;
+    };
+    let word = ignoring_case(node_identifier(tree, kinds, words, from, to));
+    let right = shape_at(tree, kinds, next, to);
+    let second = ignoring_case(node_identifier(tree, kinds, words, next, to));
+    head_holds(shape, word, right, second)
+}
