@@ -16,6 +16,7 @@ pub data Role : Type 0 where
   closes : Delimiter → Role
   neither : Role
 
+-- "`(` or `[` goes on the stack"; "`)` wants `(` on top, `]` wants `[`"; "every other token" is neither.
 unfoldable pub role : (kind : ℕ) → Role
 role k =
     if eqb k LeftParen then opens Parenthesis
@@ -24,13 +25,14 @@ role k =
     else if eqb k RightBracket then closes Bracket
     else neither
 
+-- The closer is of the opener's sort: "`)` wants `(` on top, `]` wants `[`".
 unfoldable pub same : Delimiter → Delimiter → Bool
 same Parenthesis Parenthesis = true
 same Parenthesis Bracket = false
 same Bracket Parenthesis = false
 same Bracket Bracket = true
 
--- An opener on the stack, with its token number.
+-- "`(` or `[` goes on the stack with its token number."
 pub record Opener : Type 0 where
   pub delimiter : Delimiter
   pub token : ℕ

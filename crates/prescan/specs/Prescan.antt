@@ -30,10 +30,11 @@ pub data Scanned : Type 0 where
   passed : Scan → Scanned
   refused : TypeNameError → Scanned
 
+-- Before the first token: `parse_with_profile_mode` as its loop over the tokens begins.
 unfoldable pub start : Scan
 start = record { open-brackets = []; angle-depth = 0; first-angle = no-token; has-word = false; last = NoToken }
 
--- Past a token of kind k, with these brackets and angles.
+-- Past a token of kind k, with these brackets and angles: "Tokens are taken in order".
 unfoldable pub past : (k : ℕ) → Scan → List Opener → (depth first : ℕ) → Scan
 past k s brackets depth first = record { open-brackets = brackets; angle-depth = depth; first-angle = first; has-word = s .has-word || eqb k Identifier; last = k }
 
@@ -67,18 +68,20 @@ outside-brackets language k at s =
     else if eqb k Comma && eqb depth 0 then refused (TopLevelComma at)
     else on-with depth first
 
--- A token that is no bracket, with these brackets open.
+-- "Angles and commas are tested only outside brackets": a token that is no bracket, with these brackets open.
 unfoldable pub no-bracket : (language k at : ℕ) → List Opener → Scan → Scanned
 unfolding outside-brackets past
 no-bracket language k at [] s = outside-brackets language k at s
 no-bracket language k at (o ∷ outer) s = passed (past k s (o ∷ outer) (s .angle-depth) (s .first-angle))
 
+-- The arms of the `match` in `parse_with_profile_mode`: an opener, a closer, "14 kind 57", any other token.
 unfoldable pub in-role : (language : ℕ) → Role → (k at : ℕ) → Scan → Scanned
 unfolding past close no-bracket
 in-role language (opens d) k at s = passed (past k s (record { delimiter = d; token = at } ∷ s .open-brackets) (s .angle-depth) (s .first-angle))
 in-role language (closes d) k at s = close d k at (s .open-brackets) s
 in-role language neither k at s = if eqb k End then refused (UnexpectedEndToken at) else no-bracket language k at (s .open-brackets) s
 
+-- One token more: "the first fault wins".
 unfoldable pub take-token : (language k at : ℕ) → Scanned → Scanned
 unfolding in-role role
 take-token language k at (refused e) = refused e
@@ -115,12 +118,13 @@ row-end language kinds [] s =
     else if valid-start (getD kinds 0 NoToken) && valid-end language (getD kinds (length kinds - 2) NoToken) (getD kinds (length kinds - 1) NoToken) then passed s
     else refused InvalidBoundaryToken
 
+-- "After the last token", if none was a fault.
 unfoldable pub at-row-end : (language : ℕ) → (kinds : List ℕ) → Scanned → Scanned
 unfolding row-end
 at-row-end language kinds (refused e) = refused e
 at-row-end language kinds (passed s) = row-end language kinds (s .open-brackets) s
 
--- The prescan of a row, by its token kinds.
+-- The prescan of a row, by its token kinds: "10 empty row", then "Prescan", then "Row end" of the table.
 unfoldable pub prescan : (language : ℕ) → (kinds : List ℕ) → Scanned
 unfolding at-row-end scan start
 prescan language [] = refused Empty

@@ -69,6 +69,7 @@ abbrev pub outcome-of : (kinds stack : List ℕ) → ScanStep → Scanned
 outcome-of kinds stack (On s) = passed (scan-of (openers kinds stack (s .depth)) s)
 outcome-of kinds stack (Refused e) = refused e
 
+-- The state after a step that refused nothing is sound.
 abbrev pub StillSound : (kinds stack : List ℕ) → (at : ℕ) → ScanStep → Type 0
 StillSound kinds stack at (On s) = Sound kinds stack s at
 StillSound kinds stack at (Refused e) = Unit {0}

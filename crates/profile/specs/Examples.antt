@@ -7,12 +7,14 @@ use Rattle.rows.specs.Languages.{C, Cpp, Fortran, C89, C99, C11, C18, C23, Cpp9
 use Rattle.rows.specs.Kinds.{Identifier, Integer, LeftParen, RightParen, Dot, Star, LogicalAnd, Equal}
 use Rattle.rows.specs.Words.{no-word, other-case, ignoring-case, long, «_Atomic», «_BitInt», typeof, «typeof_unqual», decltype, type, class}
 use Rattle.rows.specs.Refusals.{featureDetail}
-use Rattle.profile.specs.Profile.{Lack, nothing, lacks, missing-feature, lacking, least, features, uses, has-kind, has-adjacent-identifiers, has-identifier-call, has-identifier-followed-by-star, has-assumed-rank, some-token, some-below, identifier-is, kind-is}
+use Rattle.profile.specs.Profile.{missing-feature, lacking, least, features, uses, has-kind, has-adjacent-identifiers, has-identifier-call, has-identifier-followed-by-star, has-assumed-rank, some-token, some-below, identifier-is, kind-is}
+use Rattle.profile.specs.declared.profile.Lack.{Lack}
+use Rattle.profile.specs.declared.profile.Lack.the-variants.{Nothing, Lacks}
 
 -- The detail of refusal 40, 0 for none.
 detail-in : Lack → ℕ
-detail-in nothing = 0
-detail-in (lacks f) = featureDetail f
+detail-in Nothing = 0
+detail-in (Lacks f) = featureDetail f
 
 ask : (language standard : ℕ) → (kinds words : List ℕ) → ℕ
 unfolding detail-in missing-feature lacking least features uses has-kind has-adjacent-identifiers has-identifier-call has-identifier-followed-by-star has-assumed-rank some-token some-below identifier-is kind-is ignoring-case

@@ -1,1 +1,3 @@
+pub mod Lacking
 pub mod Monotone
+pub mod SomeToken

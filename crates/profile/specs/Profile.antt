@@ -12,63 +12,73 @@ use Rattle.rows.specs.Words.{no-word, ignoring-case, long, «_Atomic», «_BitI
 use Rattle.rows.specs.Refusals.{featureDetail}
 use Rattle.rows.specs.declared.answer.Feature.{Feature}
 use Rattle.rows.specs.declared.answer.Feature.the-variants.{LongLong, Atomic, BitInt, Typeof, TypeofUnqual, Decltype, RvalueReference, Selector, DerivedType, Class, AssumedTypeOrRank}
+use Rattle.profile.specs.declared.profile.Lack.{Lack}
+use Rattle.profile.specs.declared.profile.Lack.the-variants.{Nothing, Lacks}
 
--- Some number below n passes.
+-- Some number below n passes: `any` over the places of a row.
 unfoldable pub some-below : (n : ℕ) → (ℕ → Bool) → Bool
 some-below zero p = false
 some-below (suc n) p = some-below n p || p n
 
-module _ (kinds words : List ℕ) where
+module _ (kinds : List ℕ) where
+  -- `matches!` of a token: there is a token at this place, of this kind.
   unfoldable pub kind-is : (at kind : ℕ) → Bool
   kind-is at kind = eqb (getD kinds at NoToken) kind
 
-  -- `identifier_is`, which ignores case in every language.
-  unfoldable pub identifier-is : (at word : ℕ) → Bool
-  identifier-is at word = kind-is at Identifier && eqb (ignoring-case (getD words at no-word)) word
-
-  -- Some token of the row passes.
+  -- Some place of the row passes: `windows(..).any`.
   unfoldable pub some-token : (ℕ → Bool) → Bool
   some-token p = some-below (length kinds) p
 
+  -- `tokens.iter().any` of `validate_profile_features`.
   unfoldable pub has-kind : (kind : ℕ) → Bool
   has-kind kind = some-token (λ at. kind-is at kind)
 
-  unfoldable pub has-adjacent-identifiers : (first second : ℕ) → Bool
-  has-adjacent-identifiers first second = some-token (λ at. identifier-is at first && identifier-is (at + 1) second)
-
-  unfoldable pub has-identifier-call : (name : ℕ) → Bool
-  has-identifier-call name = some-token (λ at. identifier-is at name && kind-is (at + 1) LeftParen)
-
-  unfoldable pub has-identifier-followed-by-star : (name : ℕ) → Bool
-  has-identifier-followed-by-star name = some-token (λ at. identifier-is at name && kind-is (at + 1) LeftParen && kind-is (at + 2) Star)
-
+  -- `has_assumed_rank`
   unfoldable pub has-assumed-rank : Bool
   has-assumed-rank = some-token (λ at. kind-is at LeftParen && kind-is (at + 1) Dot && kind-is (at + 2) Dot && kind-is (at + 3) RightParen)
 
-  -- The row uses the feature.
-  unfoldable pub uses : Feature → Bool
-  uses LongLong = has-adjacent-identifiers long long
-  uses Atomic = has-identifier-call «_Atomic»
-  uses BitInt = has-identifier-call «_BitInt»
-  uses Typeof = has-identifier-call typeof
-  uses TypeofUnqual = has-identifier-call «typeof_unqual»
-  uses Decltype = has-identifier-call decltype
-  uses RvalueReference = has-kind LogicalAnd
-  uses Selector = has-kind Equal
-  uses DerivedType = has-identifier-call type
-  uses Class = has-identifier-call class
-  uses AssumedTypeOrRank = has-identifier-followed-by-star type || has-assumed-rank
+  module _ (words : List ℕ) where
+    -- `identifier_is`, which ignores case in every language.
+    unfoldable pub identifier-is : (at word : ℕ) → Bool
+    identifier-is at word = kind-is at Identifier && eqb (ignoring-case (getD words at no-word)) word
 
--- A feature of a language, and the standard that first has it.
+    -- `has_adjacent_identifiers`
+    unfoldable pub has-adjacent-identifiers : (first second : ℕ) → Bool
+    has-adjacent-identifiers first second = some-token (λ at. identifier-is at first && identifier-is (at + 1) second)
+
+    -- `has_identifier_call`
+    unfoldable pub has-identifier-call : (name : ℕ) → Bool
+    has-identifier-call name = some-token (λ at. identifier-is at name && kind-is (at + 1) LeftParen)
+
+    -- `has_identifier_followed_by_star`
+    unfoldable pub has-identifier-followed-by-star : (name : ℕ) → Bool
+    has-identifier-followed-by-star name = some-token (λ at. identifier-is at name && kind-is (at + 1) LeftParen && kind-is (at + 2) Star)
+
+    -- The row uses the feature: the tests of `validate_profile_features`, in the order of refusal 40's details.
+    unfoldable pub uses : Feature → Bool
+    uses LongLong = has-adjacent-identifiers long long
+    uses Atomic = has-identifier-call «_Atomic»
+    uses BitInt = has-identifier-call «_BitInt»
+    uses Typeof = has-identifier-call typeof
+    uses TypeofUnqual = has-identifier-call «typeof_unqual»
+    uses Decltype = has-identifier-call decltype
+    uses RvalueReference = has-kind LogicalAnd
+    uses Selector = has-kind Equal
+    uses DerivedType = has-identifier-call type
+    uses Class = has-identifier-call class
+    uses AssumedTypeOrRank = has-identifier-followed-by-star type || has-assumed-rank
+
+-- A feature of a language, and the standard that first has it: the `standard <` of `validate_profile_features`.
 pub record Since : Type 0 where
   pub feature : Feature
   pub standard : ℕ
 
 infix 70 _since_
+-- The same, for the lists of `features`.
 abbrev pub _since_ : Feature → ℕ → Since
 f since s = record { feature = f; standard = s }
 
--- The features that are tested in each language.
+-- The features that `validate_profile_features` tests in each language.
 unfoldable pub features : (language : ℕ) → List Since
 features language =
     if eqb language C then LongLong since C99 ∷ Atomic since C11 ∷ BitInt since C23 ∷ Typeof since C23 ∷ TypeofUnqual since C23 ∷ []
@@ -77,18 +87,14 @@ features language =
     Selector since Fortran90 ∷ DerivedType since Fortran90 ∷ Class since Fortran2003 ∷ AssumedTypeOrRank since Fortran2018 ∷ []
     else []
 
--- What is lacking.
-pub data Lack : Type 0 where
-  nothing : Lack
-  lacks : Feature → Lack
-
 -- "Of several missing features the one with the least detail is given."
 unfoldable pub least : Feature → Lack → Lack
-least f nothing = lacks f
-least f (lacks g) = if leb (featureDetail f) (featureDetail g) then lacks f else lacks g
+least f Nothing = Lacks f
+least f (Lacks g) = if leb (featureDetail f) (featureDetail g) then Lacks f else Lacks g
 
+-- What the standard lacks of these features: `validate_profile_features`, a feature after the other.
 unfoldable pub lacking : (standard : ℕ) → (kinds words : List ℕ) → List Since → Lack
-lacking standard kinds words [] = nothing
+lacking standard kinds words [] = Nothing
 lacking standard kinds words (s ∷ ss) =
     let rest = lacking standard kinds words ss in
     if uses kinds words (s .feature) && ltb standard (s .standard) then least (s .feature) rest else rest

@@ -7,6 +7,7 @@ use mathlib.Core.List.{List, [], _∷_, _++_}
 pub data NodeKind : Type 0 where
   T-node G-node B-node L-node A-node : NodeKind
 
+-- "Kind (0 token T, 1 parentheses G, 2 brackets B, 3 list L, 4 argument A)".
 unfoldable pub number : NodeKind → ℕ
 number T-node = 0
 number G-node = 1
@@ -14,12 +15,12 @@ number B-node = 2
 number L-node = 3
 number A-node = 4
 
--- The nodes of one level, in order. Each has its kind, its token number, the nodes one level below it, and the nodes after it.
+-- `TypeSyntax`: the nodes of one level, in order. Each has its kind, its token number, the nodes one level below it, and the nodes after it.
 pub data Nodes : Type 0 where
   none : Nodes
   node : NodeKind → (token : ℕ) → (below next : Nodes) → Nodes
 
--- How many nodes there are, those below counted.
+-- How many nodes there are, those below counted: the "node count" of an answer.
 unfoldable pub count : Nodes → ℕ
 count none = 0
 count (node k i b x) = suc (count b + count x)

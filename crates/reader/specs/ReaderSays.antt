@@ -53,6 +53,7 @@ abbrev pub Denied : Limited → Stop → Type 0
 Denied o (Stop.Refused e left) = o ≡ denied (refusal e) left
 Denied o Stop.Spent = o ≡ spent
 
+-- What `parse_group` says: the nodes of the level, or why it stopped.
 abbrev pub GroupSays : List ℕ → ℕ → Limited → CodeReading.Reading → List ℕ → Type 0
 GroupSays row at o (Done now n) buf = Told row at 0 o now n buf
 GroupSays row at o (Stopped s) buf = Denied o s
@@ -61,6 +62,7 @@ GroupSays row at o (Stopped s) buf = Denied o s
 pub record GroupAnswers (row : List ℕ) (at : ℕ) (o : Limited) (r : CodeReading.Reading) (buf : List ℕ) : Type 0 where
   pub says : GroupSays row at o r buf
 
+-- What `parse_template_arguments` says: the arguments, that the try failed, or refusal 25.
 abbrev pub ListSays : List ℕ → ℕ → Limited → Listing → List ℕ → Type 0
 ListSays row at o (Listing.Read now n) buf = Told row at 1 o now n buf
 ListSays row at o (Listing.Failed left) buf = (e : Fault) × (o ≡ denied e left)
@@ -97,6 +99,7 @@ module _ (cpp : Bool) (row : List ℕ) where
       pub within : now .cursor ≤ length row
       pub size : n + 2 * p .cursor ≤ 2 * now .cursor
 
+    -- What `parse_node` says: one node, or why it stopped.
     abbrev pub NodeSays : CodeReading.Reading → List ℕ → Type 0
     NodeSays (Done now n) buf = Found now n buf
     NodeSays (Stopped s) buf = (l : Level) → Denied (node-due lists nesting word p l) s
@@ -122,6 +125,7 @@ unfoldable pub closed-at : (at : ℕ) (half : Bool) → ℕ
 closed-at at true = at
 closed-at at false = suc at
 
+-- Half a `>>` is left behind the list that is closed at a token.
 unfoldable pub closed-half : List ℕ → (at : ℕ) (half : Bool) → Bool
 closed-half row at true = false
 closed-half row at false = eqb (kindAt row at) ShiftRight
@@ -145,6 +149,7 @@ pub record LeftOver (row : List ℕ) (g : Got) (e : TypeNameError) (m : ℕ) : T
   pub is : g ≡ got nodes at half m
   pub over : (at ≢ length row) ⊎ (half ≡ true)
 
+-- What `parse` says: the tree, a refusal of the reading or 23, or refusal 25.
 abbrev pub ParseSays : List ℕ → ℕ → Got → Parsed → List ℕ → Type 0
 ParseSays row allowance g (Parsed.Tree n m) buf = TreeRead row allowance g n m buf
 ParseSays row allowance g (Parsed.Refused e m) buf = (m ≤ allowance) × ((g ≡ bad (refusal e) m) ⊎ LeftOver row g e m)

@@ -22,7 +22,8 @@ pub data Fault : Type 0 where
   refusal : TypeNameError → Fault
   no-list : Fault
 
--- What is to be done at a token: end the level and go on at a token; stop; take a T, perhaps an identifier; read a group; try a list; begin an argument.
+-- What is to be done at a token (`parse_node` and the loops around it): end the level and go on at a token; stop; take a T, perhaps an
+-- identifier; read a group; try a list; begin an argument.
 pub data Next : Type 0 where
   ends : (at : ℕ) → Next
   stops : Fault → Next
@@ -35,11 +36,12 @@ pub data Got : Type 0 where
   got : Nodes → (at : ℕ) → (half : Bool) → (steps : ℕ) → Got
   bad : Fault → (steps : ℕ) → Got
 
+-- `Result`: one thing where a level was read, another where it was not.
 unfoldable pub case : Got → (Nodes → ℕ → Bool → ℕ → Got) → (Fault → ℕ → Got) → Got
 case (got x at half m) f g = f x at half m
 case (bad e m) f g = g e m
 
--- A node and its steps before what came of reading the rest of its level.
+-- A node and its steps before what came of reading the rest of its level: `nodes.push`.
 unfoldable pub before : NodeKind → (token : ℕ) → Nodes → (steps : ℕ) → Got → Got
 before k i b m (got x at half m′) = got (node k i b x) at half (m + m′)
 before k i b m (bad e m′) = bad e (m + m′)
@@ -86,7 +88,7 @@ module _ (cpp : Bool) where
 
 -- ---- the reading
 
--- The kind of a token of the row.
+-- The kind of a token of the row; `NoToken` past its end, where `tokens.get` gives `None`.
 unfoldable pub kindAt : List ℕ → ℕ → ℕ
 kindAt row at = getD row at NoToken
 
@@ -95,6 +97,7 @@ abbrev pub MAX-NESTING-DEPTH : ℕ
 MAX-NESTING-DEPTH = 64
 
 module _ (cpp : Bool) (row : List ℕ) where
+  -- The same in this row: `self.tokens.get(..)`.
   abbrev kind : ℕ → ℕ
   kind at = kindAt row at
 
@@ -104,7 +107,7 @@ module _ (cpp : Bool) (row : List ℕ) where
 
   -- One turn of the reading, given the reading of what comes after: `read`.
   module _ (read : Reader) where
-    -- One level down, if that is not too deep.
+    -- One level down: "20 nesting over 64" if that is too deep.
     unfoldable pub down : Bool → Level → (lists nesting at : ℕ) (half : Bool) → Got
     down true l lists nesting at half = read l lists nesting false at half
     down false l lists nesting at half = bad (refusal NestingLimitExceeded) 0
@@ -139,6 +142,7 @@ module _ (cpp : Bool) (row : List ℕ) where
           (λ x at′ half′ m. argued at x (eqb (kind at′) Comma) at′ half′ m)
           (λ e m. bad e m)
 
+    -- What `next` says is done: one turn of the loops of `parse_group` and `parse_template_arguments`.
     unfoldable pub turn : Reader
     unfolding go next
     turn l lists nesting word at half = go l lists nesting (next cpp l lists word (kind at) at half) at half
@@ -149,6 +153,7 @@ module _ (cpp : Bool) (row : List ℕ) where
   readF zero l lists nesting word at half = bad no-list 0
   readF (suc fuel) l lists nesting word at half = turn (λ l lists nesting word at half. readF fuel l lists nesting word at half) l lists nesting word at half
 
+  -- The reading of any level of the row: `parse_group` and `parse_template_arguments`.
   unfoldable pub read : Reader
   unfolding readF
   read l lists nesting word at half = readF (2 * length row + 2) l lists nesting word at half

@@ -24,7 +24,7 @@ unfolding deeper
 depth none = 0
 depth (node k i b x) = max (deeper k (depth b)) (depth x)
 
--- The tokens of a tree's nodes of one kind, parents first.
+-- The tokens of a tree's nodes of one kind, parents first: demand 3's "every `(` has exactly one G".
 unfoldable pub tokens-of : NodeKind → Nodes → List ℕ
 unfolding number
 tokens-of k none = []
@@ -41,12 +41,15 @@ numbers-of k at (k′ ∷ ks) =
 
 -- ---- of node number n in a list of node records
 
+-- "Three 32-bit numbers: kind .."
 unfoldable pub kind-of : (records : List ℕ) (n : ℕ) → ℕ
 kind-of records n = getD records (node-width * n) 0
 
+-- ".. token number .."
 unfoldable pub token-of : (records : List ℕ) (n : ℕ) → ℕ
 token-of records n = getD records (node-width * n + 1) 0
 
+-- ".. **extent** (nodes in its subtree, itself included)."
 unfoldable pub extent-of : (records : List ℕ) (n : ℕ) → ℕ
 extent-of records n = getD records (node-width * n + 2) 0
 
@@ -54,6 +57,6 @@ extent-of records n = getD records (node-width * n + 2) 0
 abbrev pub Below : (records : List ℕ) (n m : ℕ) → Type 0
 Below records n m = (n < m) × (m < n + extent-of records n)
 
--- Node n is a G or a B.
+-- Node n is a G or a B: demand 3's "no other G or B".
 abbrev pub IsGroup : (records : List ℕ) (n : ℕ) → Type 0
 IsGroup records n = (kind-of records n ≡ number G-node) ⊎ (kind-of records n ≡ number B-node)

@@ -53,5 +53,6 @@ planned cpp word k GroupStep.Node = starts cpp word k
 pub record Plans (step : GroupStep) (l : Level) (k at : ℕ) : Type 0 where
   pub plans : (cpp word half : Bool) (lists : ℕ) → planned cpp word k step ≡ next cpp l lists word k at half
 
+-- The same between brackets, of which `close` closes this level.
 pub record PlansGroup (step : GroupStep) (close other k at : ℕ) : Type 0 where
   pub plans : (cpp word : Bool) → planned cpp word k step ≡ in-group cpp close other word k at

@@ -13,7 +13,7 @@ pub record Token : Type 0 where
   pub kind : ℕ
   pub word : List ℕ
 
--- The token of a kind that has no word.
+-- The token of a kind that has no word: "with the word at kind 0".
 abbrev pub sign : ℕ → Token
 sign k = record { kind = k; word = [] }
 
@@ -22,7 +22,7 @@ unfoldable pub comma-before : Nodes → List Token → List Token
 comma-before none after = after
 comma-before (node k i b x) after = sign Comma ∷ after
 
--- The tokens that a tree of this row writes.
+-- The tokens that a tree of this row writes: "A T gives its token, an A what its nodes give, and the top-level nodes follow one another."
 unfoldable pub written : (row : List Token) → Nodes → List Token
 unfolding comma-before
 written row none = []

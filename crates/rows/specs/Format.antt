@@ -1,6 +1,6 @@
 -- The numbers of the record file: document 01, "Head record", "Token record" and "Answer record".
 -- Assumes nothing.
-use Prim.Native.Nat.{ℕ, _+_, _*_}
+use Prim.Native.Nat.{ℕ, _+_, _*_, _≤_}
 use mathlib.Core.Bool.{_&&_}
 use mathlib.Core.List.{List, [], _∷_}
 use lib.Dec.{eqb, leb, ltb}
@@ -9,14 +9,14 @@ use Rattle.rows.specs.declared.head.Meaning.{Meaning}
 use Rattle.rows.specs.declared.head.Meaning.the-variants.{Means, Unknown}
 use Rattle.rows.specs.Languages.{C, Cpp, Fortran, C18, C23, Cpp17, Cpp23, Fortran2018, Fortran2023}
 
--- A number outside the order of standards, and the standard that it means in each language.
+-- "A number outside that order counts as the standard it means": the number, and what it means in each language.
 pub record Stand-in : Type 0 where
   pub number : ℕ
   pub c : ℕ
   pub cpp : ℕ
   pub fortran : ℕ
 
--- What may differ from one format of the file to another.
+-- The numbers of a file's format that requests of document 02 change.
 pub record Format : Type 0 where
   pub head-kind : ℕ
   pub span-bytes : ℕ
@@ -34,29 +34,45 @@ format = record { head-kind = 256; span-bytes = 4; file-limit = 65536; greatest-
 
 -- ---- the head record: "length (2 bytes, ..), kind (2 bytes, ..), language (1 byte ..), standard (1 byte, ..), structure flag (1 byte, ..), allowance (4 bytes)"
 
+-- "Length (2 bytes, counting the whole record, 11)".
 abbrev pub head-length : ℕ
 head-length = 11
 
+-- "(2 bytes ..)": length and kind, in a head and in a token record.
+abbrev pub short-bytes : ℕ
+short-bytes = 2
+
+-- "allowance (4 bytes)".
+abbrev pub allowance-bytes : ℕ
+allowance-bytes = 4
+
+-- Byte offset of "length (2 bytes ..)" in a head record.
 abbrev pub at-length : ℕ
 at-length = 0
 
+-- Byte offset of "kind (2 bytes ..)" in a head and in a token record.
 abbrev pub at-kind : ℕ
 at-kind = 2
 
+-- Byte offset of "language (1 byte ..)".
 abbrev pub at-language : ℕ
 at-language = 4
 
+-- Byte offset of "standard (1 byte ..)".
 abbrev pub at-standard : ℕ
 at-standard = 5
 
+-- Byte offset of "structure flag (1 byte ..)".
 abbrev pub at-flag : ℕ
 at-flag = 6
 
+-- Byte offset of "allowance (4 bytes)".
 abbrev pub at-allowance : ℕ
 at-allowance = 7
 
 -- ---- the token record: "Length (2 bytes), kind (2 bytes ..), span start and end (4 bytes each ..)", then the word of kind 0
 
+-- Byte offset of "span start and end" in a token record.
 abbrev pub at-span : ℕ
 at-span = 4
 
@@ -68,9 +84,11 @@ token-length f = at-span + 2 * f .span-bytes
 abbrev pub longest-word : ℕ
 longest-word = 255
 
+-- ".. each 33 ..".
 abbrev pub least-word-byte : ℕ
 least-word-byte = 33
 
+-- ".. to 126".
 abbrev pub greatest-word-byte : ℕ
 greatest-word-byte = 126
 
@@ -88,6 +106,7 @@ declared language =
     else if eqb language Fortran then Fortran2023 + 1
     else 0
 
+-- "255 means C18, Cpp17 or Fortran2018": what the number means in a language.
 unfoldable pub stands-for : (language : ℕ) → Stand-in → Meaning
 stands-for language s =
     if eqb language C then Means (s .c)
@@ -95,6 +114,7 @@ stands-for language s =
     else if eqb language Fortran then Means (s .fortran)
     else Unknown
 
+-- "A number outside that order counts as the standard it means", if it is one of these.
 unfoldable pub among : (language standard : ℕ) → List Stand-in → Meaning
 among language standard [] = Unknown
 among language standard (s ∷ ss) = if eqb standard (s .number) then stands-for language s else among language standard ss
@@ -102,3 +122,8 @@ among language standard (s ∷ ss) = if eqb standard (s .number) then stands-for
 -- "A number outside that order counts as the standard it means."
 unfoldable pub meant : Format → (language standard : ℕ) → Meaning
 meant f language standard = if ltb standard (declared language) then Means standard else among language standard (f .stand-ins)
+
+-- Document 01's **later**: "A standard is later than another if its language declares it after that one". Of two standards of one language, each
+-- the one that is meant, the second is the same or later.
+abbrev pub SameOrLater : (standard standard′ : ℕ) → Type 0
+SameOrLater standard standard′ = standard ≤ standard′

@@ -2,27 +2,35 @@
 -- Assumes nothing.
 use Prim.Native.Nat.{ℕ}
 
+-- `TokenKind::Identifier`: a word; "Kind 0 adds a word".
 abbrev pub Identifier : ℕ
 Identifier = 0
 
+-- `TokenKind::ReservedKeyword`
 abbrev pub ReservedKeyword : ℕ
 ReservedKeyword = 1
 
+-- `TokenKind::Integer`: an integer literal.
 abbrev pub Integer : ℕ
 Integer = 2
 
+-- `TokenKind::Real`: a real literal.
 abbrev pub Real : ℕ
 Real = 3
 
+-- `TokenKind::Character`: a character literal.
 abbrev pub Character : ℕ
 Character = 4
 
+-- `TokenKind::String`: a string literal.
 abbrev pub String : ℕ
 String = 5
 
+-- `true`, `false`, `.true.`, `.false.`
 abbrev pub Boolean : ℕ
 Boolean = 6
 
+-- `nullptr`
 abbrev pub NullPointer : ℕ
 NullPointer = 7
 
@@ -98,6 +106,7 @@ Concat = 24
 abbrev pub Remainder : ℕ
 Remainder = 25
 
+-- `!` of C and C++, `.not.`
 abbrev pub LogicalNot : ℕ
 LogicalNot = 26
 
@@ -125,12 +134,15 @@ LogicalAnd = 31
 abbrev pub LogicalOr : ℕ
 LogicalOr = 32
 
+-- `.eqv.`
 abbrev pub LogicalEqv : ℕ
 LogicalEqv = 33
 
+-- `.neqv.`
 abbrev pub LogicalNeqv : ℕ
 LogicalNeqv = 34
 
+-- `.name.` of Fortran.
 abbrev pub FortranDefinedOperator : ℕ
 FortranDefinedOperator = 35
 
@@ -170,45 +182,58 @@ ShiftLeft = 43
 abbrev pub ShiftRight : ℕ
 ShiftRight = 44
 
+-- `++`
 abbrev pub PlusPlus : ℕ
 PlusPlus = 45
 
+-- `--`
 abbrev pub MinusMinus : ℕ
 MinusMinus = 46
 
+-- `+=`
 abbrev pub PlusEqual : ℕ
 PlusEqual = 47
 
+-- `-=`
 abbrev pub MinusEqual : ℕ
 MinusEqual = 48
 
+-- `*=`
 abbrev pub StarEqual : ℕ
 StarEqual = 49
 
+-- `/=` of C and C++
 abbrev pub SlashEqual : ℕ
 SlashEqual = 50
 
+-- `%=`
 abbrev pub RemainderEqual : ℕ
 RemainderEqual = 51
 
+-- `&=`
 abbrev pub AmpersandEqual : ℕ
 AmpersandEqual = 52
 
+-- `|=`
 abbrev pub PipeEqual : ℕ
 PipeEqual = 53
 
+-- `^=`
 abbrev pub CaretEqual : ℕ
 CaretEqual = 54
 
+-- `<<=`
 abbrev pub ShiftLeftEqual : ℕ
 ShiftLeftEqual = 55
 
+-- `>>=`
 abbrev pub ShiftRightEqual : ℕ
 ShiftRightEqual = 56
 
+-- `TokenKind::End`: "14 kind 57".
 abbrev pub End : ℕ
 End = 57
 
--- Stands for the kind where there is no token: past the row's end, or before its first token.
+-- Stands for the kind where there is no token, past the row's end or before its first token: `None` of `tokens.get`.
 abbrev pub NoToken : ℕ
 NoToken = 58

@@ -1,4 +1,5 @@
 pub mod Tests
+pub mod Lookups
 pub mod Numbered
 pub mod Bytes
 pub mod Tokens

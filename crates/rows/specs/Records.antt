@@ -8,7 +8,7 @@ use lib.Dec.{leb, ltb, eqb}
 use Rattle.rows.specs.Notation.{if_then_else_}
 use Rattle.rows.specs.Kinds.{Identifier, End}
 use Rattle.rows.specs.Words.{word-number}
-use Rattle.rows.specs.Format.{Format, head-length, at-length, at-kind, at-language, at-standard, at-flag, at-allowance, at-span, token-length, longest-word, least-word-byte, greatest-word-byte, most-tokens, meant}
+use Rattle.rows.specs.Format.{Format, short-bytes, allowance-bytes, head-length, at-length, at-kind, at-language, at-standard, at-flag, at-allowance, at-span, token-length, longest-word, least-word-byte, greatest-word-byte, most-tokens, meant}
 use Rattle.rows.specs.declared.answer.TypeNameError.{TypeNameError}
 use Rattle.rows.specs.declared.answer.TypeNameError.the-variants.{FileTooLong, InvalidHead, UnknownProfile, InvalidRecord, TooManyRecords}
 use Rattle.rows.specs.declared.head.Meaning.{Meaning}
@@ -19,12 +19,16 @@ use Rattle.rows.specs.declared.head.Head.{Head}
 use Rattle.rows.specs.declared.head.FileHead.{FileHead}
 use Rattle.rows.specs.declared.head.FileHead.the-variants.{Formed, Refused}
 
+-- A byte is a number below 256.
+abbrev pub byte-values : ℕ
+byte-values = 256
+
 -- "All record numbers are little-endian."
 unfoldable pub little-endian : (width : ℕ) → (file : List ℕ) → (at : ℕ) → ℕ
 little-endian zero file at = 0
-little-endian (suc width) file at = getD file at 0 + 256 * little-endian width file (suc at)
+little-endian (suc width) file at = getD file at 0 + byte-values * little-endian width file (suc at)
 
--- A token of a row: the byte offset of its record in the file, its kind, and its word's bytes, none but at kind 0.
+-- A token of a row: the byte offset of its record in the file, its kind, and its word's bytes, "that part of the caller's file", none but at kind 0.
 pub record RowToken : Type 0 where
   pub place : ℕ
   pub kind : ℕ
@@ -40,6 +44,7 @@ unfoldable pub in-range : List ℕ → Bool
 in-range [] = true
 in-range (b ∷ bs) = leb least-word-byte b && leb b greatest-word-byte && in-range bs
 
+-- One token more in front of a row: "Each record in turn".
 unfoldable pub before-row : RowToken → Row → Row
 before-row t (refused e) = refused e
 before-row t (row ts) = row (t ∷ ts)
@@ -47,19 +52,21 @@ before-row t (row ts) = row (t ∷ ts)
 module _ (f : Format) (file : List ℕ) where
   -- ---- the head record: refusals 1 to 3
 
-  -- The head is there, with its length, its kind and a flag that the format has.
+  -- Not "2 head short, wrong length or kind, or flag over 1".
   unfoldable pub head-formed : Bool
   head-formed =
       leb head-length (length file)
-      && eqb (little-endian 2 file at-length) head-length
-      && eqb (little-endian 2 file at-kind) (f .head-kind)
+      && eqb (little-endian short-bytes file at-length) head-length
+      && eqb (little-endian short-bytes file at-kind) (f .head-kind)
       && leb (getD file at-flag 0) (f .greatest-flag)
 
+  -- "3 unknown language or standard", or the head with the standard that is meant.
   unfoldable pub head-with : Meaning → FileHead
   head-with Unknown = Refused UnknownProfile
   head-with (Means standard) =
-      Formed (record { language = getD file at-language 0; standard = standard; flag = getD file at-flag 0; allowance = little-endian 4 file at-allowance })
+      Formed (record { language = getD file at-language 0; standard = standard; flag = getD file at-flag 0; allowance = little-endian allowance-bytes file at-allowance })
 
+  -- The place "File" of the table: refusals 1, 2 and 3 in this order.
   unfoldable pub head : FileHead
   head =
       if ltb (f .file-limit) (length file) then Refused FileTooLong
@@ -68,16 +75,19 @@ module _ (f : Format) (file : List ℕ) where
 
   -- ---- token records: refusals 4 and 5
 
-  -- The fields of the record at a byte offset.
+  -- "Length (2 bytes)" of the token record at a byte offset.
   unfoldable pub length-at : (at : ℕ) → ℕ
-  length-at at = little-endian 2 file at
+  length-at at = little-endian short-bytes file at
 
+  -- "kind (2 bytes ..)" of it.
   unfoldable pub kind-at : (at : ℕ) → ℕ
-  kind-at at = little-endian 2 file (at + at-kind)
+  kind-at at = little-endian short-bytes file (at + at-kind)
 
+  -- "span start .. (4 bytes ..)" of it.
   unfoldable pub span-start-at : (at : ℕ) → ℕ
   span-start-at at = little-endian (f .span-bytes) file (at + at-span)
 
+  -- "span .. end (4 bytes ..)" of it.
   unfoldable pub span-end-at : (at : ℕ) → ℕ
   span-end-at at = little-endian (f .span-bytes) file (at + at-span + f .span-bytes)
 
@@ -105,15 +115,16 @@ module _ (f : Format) (file : List ℕ) where
       && leb (span-start-at at) (span-end-at at)
       && length-fits at
 
-  -- What stands at a byte offset.
+  -- "Each record in turn": the record at a byte offset, or that none is well formed there.
   unfoldable pub found : (at : ℕ) → TokenRecord
   found at = if well-formed at then TokenRecord.Formed (kind-at at) (length-at at) else TokenRecord.Malformed
 
-  -- The word of the record at any byte offset, empty where none stands.
+  -- The word of the record at a byte offset, "that part of the caller's file"; empty where none stands.
   unfoldable pub word-in : (at : ℕ) → TokenRecord → List ℕ
   word-in at TokenRecord.Malformed = []
   word-in at (TokenRecord.Formed kind length) = word-at at
 
+  -- "4 record malformed .. (detail: its byte offset)", or its token before what the records after it give.
   unfoldable pub after-record : (at : ℕ) → TokenRecord → (ℕ → Row) → Row
   after-record at TokenRecord.Malformed rest = refused (InvalidRecord at)
   after-record at (TokenRecord.Formed kind length) rest = before-row (record { place = at; kind = kind; word = word-at at }) (rest (at + length))
@@ -129,11 +140,14 @@ module _ (f : Format) (file : List ℕ) where
 
 -- ---- what the layers above are given of a row
 
+-- The token kinds of a row: what "prescan, reader, profile check" are given.
 unfoldable pub kinds-of : List RowToken → List ℕ
 kinds-of ts = map (λ (t : RowToken). t .kind) ts
 
+-- The word numbers of a row ("an array by word number" counts them).
 unfoldable pub words-of : List RowToken → List ℕ
 words-of ts = map (λ (t : RowToken). word-number (t .word)) ts
 
+-- The byte offsets of a row's records: where a word is found, "not copied".
 unfoldable pub places-of : List RowToken → List ℕ
 places-of ts = map (λ (t : RowToken). t .place) ts

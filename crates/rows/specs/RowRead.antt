@@ -30,6 +30,7 @@ pub record ReadsTokens (file : List ℕ) (begin most : ℕ) (kinds words places 
   pub words-filled : Filled words (words-of tokens) words′
   pub places-filled : Filled places (places-of tokens) places′
 
+-- The row stands in the arrays, or it is refused as the definition refuses it.
 abbrev pub Answered : (file : List ℕ) (begin most : ℕ) (kinds words places : List ℕ) → RowRead → (kinds′ words′ places′ : List ℕ) → Type 0
 Answered file begin most kinds words places (Tokens count) kinds′ words′ places′ = ReadsTokens file begin most kinds words places count kinds′ words′ places′
 Answered file begin most kinds words places (Refused e) kinds′ words′ places′ = records-from format file most begin ≡ refused e

@@ -12,145 +12,189 @@ use Rattle.rows.specs.Notation.{if_then_else_}
 
 -- ---- the known words by number
 
--- Stands for a word that is not known.
+-- Stands for a word that type_name.rs compares with nothing.
 abbrev pub no-word : ℕ
 no-word = 0
 
+-- `is_c_builtin_type_word`
 abbrev pub void : ℕ
 void = 1
 
+-- `is_c_builtin_type_word`
 abbrev pub bool : ℕ
 bool = 2
 
+-- `is_c_builtin_type_word`
 abbrev pub «_Bool» : ℕ
 «_Bool» = 3
 
+-- `is_c_builtin_type_word`
 abbrev pub char : ℕ
 char = 4
 
+-- `is_c_builtin_type_word`
 abbrev pub «wchar_t» : ℕ
 «wchar_t» = 5
 
+-- `is_c_builtin_type_word`
 abbrev pub «char8_t» : ℕ
 «char8_t» = 6
 
+-- `is_c_builtin_type_word`
 abbrev pub «char16_t» : ℕ
 «char16_t» = 7
 
+-- `is_c_builtin_type_word`
 abbrev pub «char32_t» : ℕ
 «char32_t» = 8
 
+-- `is_c_builtin_type_word`
 abbrev pub int : ℕ
 int = 9
 
+-- `is_c_builtin_type_word`
 abbrev pub float : ℕ
 float = 10
 
+-- `is_c_builtin_type_word`
 abbrev pub double : ℕ
 double = 11
 
+-- `is_c_builtin_type_word`
 abbrev pub «_Decimal32» : ℕ
 «_Decimal32» = 12
 
+-- `is_c_builtin_type_word`
 abbrev pub «_Decimal64» : ℕ
 «_Decimal64» = 13
 
+-- `is_c_builtin_type_word`
 abbrev pub «_Decimal128» : ℕ
 «_Decimal128» = 14
 
+-- `is_c_builtin_type_word`
 abbrev pub short : ℕ
 short = 15
 
+-- `is_c_builtin_type_word`
 abbrev pub long : ℕ
 long = 16
 
+-- `is_c_builtin_type_word`
 abbrev pub signed : ℕ
 signed = 17
 
+-- `is_c_builtin_type_word`
 abbrev pub unsigned : ℕ
 unsigned = 18
 
+-- `is_c_builtin_type_word`
 abbrev pub «_Complex» : ℕ
 «_Complex» = 19
 
+-- `is_c_builtin_type_word`
 abbrev pub «_Imaginary» : ℕ
 «_Imaginary» = 20
 
+-- `is_c_family_declarator_qualifier`
 abbrev pub const : ℕ
 const = 21
 
+-- `is_c_family_declarator_qualifier`
 abbrev pub volatile : ℕ
 volatile = 22
 
+-- `is_c_family_declarator_qualifier`
 abbrev pub restrict : ℕ
 restrict = 23
 
+-- `is_c_family_declarator_qualifier`
 abbrev pub noexcept : ℕ
 noexcept = 24
 
+-- `is_c_family_declarator_qualifier`
 abbrev pub «transaction_safe» : ℕ
 «transaction_safe» = 25
 
+-- `is_c_family_declarator_qualifier`
 abbrev pub «__restrict» : ℕ
 «__restrict» = 26
 
+-- `is_c_family_declarator_qualifier`
 abbrev pub «__restrict__» : ℕ
 «__restrict__» = 27
 
+-- `is_c_family_declarator_qualifier`
 abbrev pub «_Atomic» : ℕ
 «_Atomic» = 28
 
+-- `validate_c_decl_specifiers`
 abbrev pub decltype : ℕ
 decltype = 29
 
+-- `validate_c_decl_specifiers`
 abbrev pub typeof : ℕ
 typeof = 30
 
+-- `validate_c_decl_specifiers`
 abbrev pub «typeof_unqual» : ℕ
 «typeof_unqual» = 31
 
+-- `validate_c_decl_specifiers`
 abbrev pub «__typeof» : ℕ
 «__typeof» = 32
 
+-- `validate_c_decl_specifiers`
 abbrev pub «__typeof__» : ℕ
 «__typeof__» = 33
 
+-- `validate_c_decl_specifiers`
 abbrev pub «_BitInt» : ℕ
 «_BitInt» = 34
 
+-- `validate_c_decl_specifiers`
 abbrev pub struct : ℕ
 struct = 35
 
+-- `validate_c_decl_specifiers`
 abbrev pub union : ℕ
 union = 36
 
+-- `validate_c_decl_specifiers`
 abbrev pub enum : ℕ
 enum = 37
 
+-- `validate_c_decl_specifiers`
 abbrev pub typename : ℕ
 typename = 38
 
+-- `validate_c_decl_specifiers`
 abbrev pub class : ℕ
 class = 39
 
+-- `validate_fortran_type_head`
 abbrev pub type : ℕ
 type = 40
 
+-- `validate_fortran_type_head`
 abbrev pub precision : ℕ
 precision = 41
 
+-- `validate_fortran_type_head`
 abbrev pub complex : ℕ
 complex = 42
 
+-- A word that type_name.rs compares with: its number and how it is spelled.
 pub record Known : Type 0 where
   pub number : ℕ
   pub text : String
 
+-- The same, for the lines of `known`.
 abbrev pub _spelled_ : ℕ → String → Known
 n spelled t = record { number = n; text = t }
 
 infix 70 _spelled_
--- The table of known words.
+-- The table of known words: every text that type_name.rs compares a word with.
 unfoldable pub known : List Known
 known =
     void spelled "void" ∷
@@ -199,14 +243,26 @@ known =
 
 -- ---- a word's number
 
--- The bytes of an ASCII text.
+-- The bytes of an ASCII text: `as_bytes`.
 unfoldable pub bytes : String → List ℕ
 bytes String.[] = []
 bytes (String._∷_ c s) = code c ∷ bytes s
 
--- A byte in lower case.
+-- `A` in ASCII.
+abbrev pub capital-A : ℕ
+capital-A = 65
+
+-- `Z` in ASCII.
+abbrev pub capital-Z : ℕ
+capital-Z = 90
+
+-- From a capital to its small letter in ASCII.
+abbrev pub to-small : ℕ
+to-small = 32
+
+-- `to_ascii_lowercase` of a byte.
 unfoldable pub lower : ℕ → ℕ
-lower b = if leb 65 b && leb b 90 then b + 32 else b
+lower b = if leb capital-A b && leb b capital-Z then b + to-small else b
 
 -- Two words are the same, byte by byte, each byte seen through `fold`.
 unfoldable pub same-through : (fold : ℕ → ℕ) → List ℕ → List ℕ → Bool
@@ -215,15 +271,17 @@ same-through fold [] (c ∷ v) = false
 same-through fold (b ∷ w) [] = false
 same-through fold (b ∷ w) (c ∷ v) = eqb (fold b) (fold c) && same-through fold w v
 
+-- `==` of two words.
 unfoldable pub same-exactly : List ℕ → List ℕ → Bool
 unfolding same-through
 same-exactly w v = same-through (λ b. b) w v
 
+-- `eq_ignore_ascii_case` of two words.
 unfoldable pub same-ignoring-case : List ℕ → List ℕ → Bool
 unfolding same-through lower
 same-ignoring-case w v = same-through lower w v
 
--- Added to the number of a word that is known with case ignored only.
+-- Added to the number of a word that is known by `eq_ignore_ascii_case` only.
 abbrev pub other-case : ℕ
 other-case = 128
 

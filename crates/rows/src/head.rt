@@ -26,7 +26,8 @@ const GREATEST_FLAG: u8 = 1;
 
 const AT_LENGTH: usize = 0;
 
-const AT_KIND: usize = 2;
+// In a token record too.
+pub const AT_KIND: usize = 2;
 
 const AT_LANGUAGE: usize = 4;
 

@@ -7,4 +7,5 @@ pub mod kinds;
 pub mod languages;
 pub mod row;
 pub mod token;
+pub mod word_numbers;
 pub mod words;

@@ -2,6 +2,7 @@
 
 use crate::bytes::four_bytes;
 use crate::bytes::two_bytes;
+use crate::head::AT_KIND;
 use crate::kinds::END;
 use crate::kinds::IDENTIFIER;
 ghost use mathlib.Core.Path.{_≡_};
@@ -9,8 +10,6 @@ ghost use Prim.Native.Nat.{_+_, _≤_};
 ghost use lib.ListN.{length};
 ghost use Rattle.rows.specs.Format.{format};
 ghost use Rattle.rows.specs.Records.{found, in-range, kind-at, length-at, length-fits, word-fits, word-in};
-
-const AT_KIND: usize = 2;
 
 const AT_SPAN: usize = 4;
 

@@ -1,5 +1,49 @@
 // The number of a word: a word is compared with the few known words of its length.
 
+use crate::word_numbers::ATOMIC;
+use crate::word_numbers::BIT_INT;
+use crate::word_numbers::BOOL;
+use crate::word_numbers::C_BOOL;
+use crate::word_numbers::C_COMPLEX;
+use crate::word_numbers::CHAR;
+use crate::word_numbers::CHAR8_T;
+use crate::word_numbers::CHAR16_T;
+use crate::word_numbers::CHAR32_T;
+use crate::word_numbers::CLASS;
+use crate::word_numbers::COMPLEX;
+use crate::word_numbers::CONST;
+use crate::word_numbers::DECIMAL32;
+use crate::word_numbers::DECIMAL64;
+use crate::word_numbers::DECIMAL128;
+use crate::word_numbers::DECLTYPE;
+use crate::word_numbers::DOUBLE;
+use crate::word_numbers::ENUM;
+use crate::word_numbers::FLOAT;
+use crate::word_numbers::GNU_RESTRICT;
+use crate::word_numbers::GNU_RESTRICT_CLOSED;
+use crate::word_numbers::GNU_TYPEOF;
+use crate::word_numbers::GNU_TYPEOF_CLOSED;
+use crate::word_numbers::IMAGINARY;
+use crate::word_numbers::INT;
+use crate::word_numbers::LONG;
+use crate::word_numbers::NO_WORD;
+use crate::word_numbers::NOEXCEPT;
+use crate::word_numbers::OTHER_CASE;
+use crate::word_numbers::PRECISION;
+use crate::word_numbers::RESTRICT;
+use crate::word_numbers::SHORT;
+use crate::word_numbers::SIGNED;
+use crate::word_numbers::STRUCT;
+use crate::word_numbers::TRANSACTION_SAFE;
+use crate::word_numbers::TYPE;
+use crate::word_numbers::TYPENAME;
+use crate::word_numbers::TYPEOF;
+use crate::word_numbers::TYPEOF_UNQUAL;
+use crate::word_numbers::UNION;
+use crate::word_numbers::UNSIGNED;
+use crate::word_numbers::VOID;
+use crate::word_numbers::VOLATILE;
+use crate::word_numbers::WCHAR_T;
 ghost use mathlib.Core.Path.{_≡_};
 ghost use Prim.Native.Nat.{_+_, _≤_};
 ghost use lib.ListN.{drop, length, take};
@@ -7,12 +51,14 @@ ghost use Rattle.rows.specs.Words.{lower, word-number};
 ghost use Rattle.rows.specs.Laws.KnownWords.{compared, texts};
 ghost use Rattle.rows.specs.Laws.KnownTable.{Tables};
 
-// Added to the number of a word that is known with case ignored only.
-const OTHER_CASE: u8 = 128;
-
-const NO_WORD: u8 = 0;
-
 const LONGEST_KNOWN: usize = 16;
+
+const CAPITAL_A: u8 = 65;
+
+const CAPITAL_Z: u8 = 90;
+
+// From a capital to its small letter.
+const TO_SMALL: u8 = 32;
 
 // The tables are lent to the search: made anew at each use, they would be copied at each use.
 
@@ -22,48 +68,48 @@ pub const TEXTS: [u8; 307] =
 
 // Their numbers, in that order.
 pub const NUMBERS: [u8; 42] = [
-    9,
-    1,
-    2,
-    4,
-    16,
-    37,
-    40,
-    3,
-    10,
-    15,
-    21,
-    36,
-    39,
-    11,
-    17,
-    30,
-    35,
-    5,
-    6,
-    28,
-    34,
-    42,
-    7,
-    8,
-    18,
-    19,
-    22,
-    23,
-    24,
-    29,
-    32,
-    38,
-    41,
-    12,
-    13,
-    20,
-    26,
-    33,
-    14,
-    27,
-    31,
-    25,
+    INT,
+    VOID,
+    BOOL,
+    CHAR,
+    LONG,
+    ENUM,
+    TYPE,
+    C_BOOL,
+    FLOAT,
+    SHORT,
+    CONST,
+    UNION,
+    CLASS,
+    DOUBLE,
+    SIGNED,
+    TYPEOF,
+    STRUCT,
+    WCHAR_T,
+    CHAR8_T,
+    ATOMIC,
+    BIT_INT,
+    COMPLEX,
+    CHAR16_T,
+    CHAR32_T,
+    UNSIGNED,
+    C_COMPLEX,
+    VOLATILE,
+    RESTRICT,
+    NOEXCEPT,
+    DECLTYPE,
+    GNU_TYPEOF,
+    TYPENAME,
+    PRECISION,
+    DECIMAL32,
+    DECIMAL64,
+    IMAGINARY,
+    GNU_RESTRICT,
+    GNU_TYPEOF_CLOSED,
+    DECIMAL128,
+    GNU_RESTRICT_CLOSED,
+    TYPEOF_UNQUAL,
+    TRANSACTION_SAFE,
 ];
 
 // Where each begins in TEXTS.
@@ -143,13 +189,13 @@ pub enum Comparison {
 fn lower_case(byte: u8) -> u8
     ensures { λ r. ⌜ r ≡ lower byte ⌝ }
 {
-    if byte < 65 {
+    if byte < CAPITAL_A {
         return byte;
     }
-    if 90 < byte {
+    if CAPITAL_Z < byte {
         return byte;
     }
-    byte + 32
+    byte + TO_SMALL
 }
 
 // A word beside the known text of the same length that begins at a place of TEXTS.

@@ -8,7 +8,7 @@ use Rattle.structure.specs.Moves.{Said, holds, fails}
 use Rattle.structure.specs.declared.moves.Verdict.{Verdict}
 use Rattle.structure.specs.declared.moves.Verdict.the-variants.{Holds, Fails, Spent}
 
--- What comes of a check when so many steps are left.
+-- What comes of a check when so many steps are left: "25 step count would pass the allowance, and only then".
 unfoldable pub limited : (left : ℕ) → Said → Verdict
 limited left (holds m) = if leb m left then Holds (left - m) else Spent
 limited left (fails m) = if leb m left then Fails (left - m) else Spent

@@ -33,6 +33,7 @@ is-part-of-name left right = eqb right Scope || eqb right TemplateArguments || e
 pub data TypeState : Type 0 where
   type-state : (saw-type-word declarator-started saw-reference : Bool) → TypeState
 
+-- What `validate_c_family_type` returns after its loop.
 unfoldable pub type-end : TypeState → Bool
 type-end (type-state word started reference) = word
 
@@ -40,6 +41,7 @@ type-end (type-state word started reference) = word
 pub data DeclaratorState : Type 0 where
   declarator-state : (saw-operator saw-reference : Bool) → DeclaratorState
 
+-- What `validate_abstract_declarator` returns after its loop.
 unfoldable pub declarator-end : DeclaratorState → Bool
 declarator-end (declarator-state operator reference) = operator
 

@@ -15,10 +15,12 @@ use Rattle.structure.specs.Moves.{some-expression, optional-expression, 
 pub data ExpressionState : Type 0 where
   expression-state : (expects-operand expects-name-after-access : Bool) (conditional-depth : ℕ) → ExpressionState
 
+-- What `validate_expression` returns after its loop.
 unfoldable pub expression-end : ExpressionState → Bool
 expression-end (expression-state operand access depth) = not operand && not access && eqb depth 0
 
--- s: the shape of the node. Where no operand is expected, a prefix operator goes on to the lines of the postfix and binary operators.
+-- `validate_expression` at a node of shape s. Where no operand is expected, a prefix operator goes on to the lines of the postfix and binary
+-- operators.
 unfoldable pub expression-node : (lang s : ℕ) → ExpressionState → Move ExpressionState
 expression-node lang s (expression-state operand access depth) =
     if eqb s Identifier then on-if operand (expression-state false false depth)

@@ -29,6 +29,7 @@ validate-fortran-type-head kinds words x = fortran-head (shape kinds x) (caseles
 pub data FortranState : Type 0 where
   fortran-state : (saw-word saw-selector : Bool) → FortranState
 
+-- What `validate_fortran_type` returns after its loop.
 unfoldable pub fortran-end : FortranState → Bool
 fortran-end (fortran-state word selector) = word
 

@@ -8,10 +8,11 @@ use Rattle.reader.specs.Nodes.{Nodes}
 
 -- ---- what a check comes to: it holds or fails, after so many steps
 
+-- The `bool` of the `validate_*` functions, and the "Steps" up to it.
 pub data Said : Type 0 where
   holds fails : (steps : ℕ) → Said
 
--- So many steps more.
+-- So many "Steps" more.
 unfoldable pub after : (steps : ℕ) → Said → Said
 after m (holds n) = holds (m + n)
 after m (fails n) = fails (m + n)
@@ -26,7 +27,7 @@ unfoldable pub either : Said → (Bool → Said) → Said
 either (holds m) f = holds m
 either (fails m) f = after m (f false)
 
--- A condition, tested without a step.
+-- A condition of a `validate_*` function, tested without a step.
 unfoldable pub plain : Bool → Said
 plain true = holds 0
 plain false = fails 0
@@ -43,18 +44,19 @@ pub data Test : Type 0 where
   type-name expression some-expression optional-expression type-or-expression array-bound declarator arguments selectors : Test
   declarator-or-parameters : (saw-type-word : Bool) → Test
 
--- What a loop over the nodes of a level does at a node, S the type of the loop's variables: return this answer; go on with these values; or, if
+-- What a loop of a `validate_*` function does at a node, S the type of the loop's variables: return this answer; go on with these values; or, if
 -- the nodes below the node pass a test, go on with these values, and else return false.
 pub data Move (S : Type 0) : Type 0 where
   stop : Bool → Move S
   on : S → Move S
   inside : Test → S → Move S
 
--- The same if a condition holds; else the loop returns false.
+-- `if !.. { return false; }`: go on if a condition holds.
 unfoldable pub on-if : {S : Type 0} → Bool → S → Move S
 on-if true st = on st
 on-if false st = stop false
 
+-- `if !.. { return false; }` before a test of the nodes below.
 unfoldable pub inside-if : {S : Type 0} → Bool → Test → S → Move S
 inside-if true t st = inside t st
 inside-if false t st = stop false

@@ -21,6 +21,7 @@ use Rattle.structure.specs.declared.moves.ExpressionMove.the-variants as
 use Rattle.structure.specs.declared.moves.FortranMove.{FortranMove}
 use Rattle.structure.specs.declared.moves.FortranMove.the-variants as F
 
+-- What `Inner` asks.
 abbrev pub test-of : Inner → Test
 test-of I.TypeName = type-name
 test-of I.Expression = expression
@@ -33,33 +34,41 @@ test-of I.Arguments = arguments
 test-of I.Selectors = selectors
 test-of (I.DeclaratorOrParameters word) = declarator-or-parameters word
 
+-- The variables of `validate_c_family_type`.
 abbrev pub type-state-of : TypeLoop → TypeState
 type-state-of st = type-state (st .word) (st .started) (st .reference)
 
+-- The variables of `validate_abstract_declarator`.
 abbrev pub declarator-state-of : DeclaratorLoop → DeclaratorState
 declarator-state-of st = declarator-state (st .operator) (st .reference)
 
+-- The variables of `validate_expression`.
 abbrev pub expression-state-of : ExpressionLoop → ExpressionState
 expression-state-of st = expression-state (st .operand) (st .access) (st .depth)
 
+-- The variables of `validate_fortran_type`.
 abbrev pub fortran-state-of : FortranLoop → FortranState
 fortran-state-of st = fortran-state (st .word) (st .selector)
 
+-- What `validate_c_family_type` does at a node.
 abbrev pub type-move-of : TypeMove → Move TypeState
 type-move-of (Y.Stop r) = stop r
 type-move-of (Y.On st) = on (type-state-of st)
 type-move-of (Y.Inside t st) = inside (test-of t) (type-state-of st)
 
+-- What `validate_abstract_declarator` does at a node.
 abbrev pub declarator-move-of : DeclaratorMove → Move DeclaratorState
 declarator-move-of (D.Stop r) = stop r
 declarator-move-of (D.On st) = on (declarator-state-of st)
 declarator-move-of (D.Inside t st) = inside (test-of t) (declarator-state-of st)
 
+-- What `validate_expression` does at a node.
 abbrev pub expression-move-of : ExpressionMove → Move ExpressionState
 expression-move-of (E.Stop r) = stop r
 expression-move-of (E.On st) = on (expression-state-of st)
 expression-move-of (E.Inside t st) = inside (test-of t) (expression-state-of st)
 
+-- What `validate_fortran_type` does at a node.
 abbrev pub fortran-move-of : FortranMove → Move FortranState
 fortran-move-of (F.Stop r) = stop r
 fortran-move-of (F.On st) = on (fortran-state-of st)

@@ -38,26 +38,27 @@ signs = signed ∷ unsigned ∷ []
 unfoldable pub declarator-qualifiers : List ℕ
 declarator-qualifiers = const ∷ volatile ∷ restrict ∷ «_Atomic» ∷ noexcept ∷ «transaction_safe» ∷ «__restrict» ∷ «__restrict__» ∷ []
 
--- The words that make a type specifier with the parentheses after them.
+-- `validate_c_decl_specifiers`: the words that make a type specifier with the parentheses after them.
 unfoldable pub parenthesis-words : List ℕ
 parenthesis-words = decltype ∷ typeof ∷ «typeof_unqual» ∷ «__typeof» ∷ «__typeof__» ∷ «_Atomic» ∷ «_BitInt» ∷ []
 
+-- `validate_c_family_type`: those of them whose parentheses hold a type or an expression.
 unfoldable pub typeof-words : List ℕ
 typeof-words = typeof ∷ «typeof_unqual» ∷ «__typeof» ∷ «__typeof__» ∷ []
 
--- The words that begin an elaborated type name.
+-- `validate_c_decl_specifiers`: the words that begin an elaborated type name.
 unfoldable pub elaborated-words : List ℕ
 elaborated-words = struct ∷ union ∷ enum ∷ class ∷ typename ∷ []
 
--- Those of them that C does not have.
+-- `validate_c_decl_specifiers`: those of them that C does not have.
 unfoldable pub cpp-elaborated-words : List ℕ
 cpp-elaborated-words = class ∷ typename ∷ []
 
--- Fortran: the words before the parentheses of a derived type.
+-- `validate_fortran_type_head`: the words before the parentheses of a derived type.
 unfoldable pub derived-type-words : List ℕ
 derived-type-words = type ∷ class ∷ []
 
--- Fortran: the words after `double`.
+-- `validate_fortran_type_head`: the words after `double`.
 unfoldable pub words-after-double : List ℕ
 words-after-double = precision ∷ complex ∷ []
 
@@ -83,6 +84,7 @@ reference-operators = Ampersand ∷ LogicalAnd ∷ []
 unfoldable pub declarator-starts : List ℕ
 declarator-starts = Star ∷ Ampersand ∷ LogicalAnd ∷ Scope ∷ Parenthesized ∷ Bracketed ∷ []
 
+-- The arm of `validate_expression` for literals.
 unfoldable pub literals : List ℕ
 literals = Integer ∷ Real ∷ Character ∷ String ∷ Boolean ∷ NullPointer ∷ []
 
@@ -98,6 +100,7 @@ accesses-of lang = if eqb lang Fortran then Percent ∷ [] else Dot ∷ Arrow �
 unfoldable pub prefix-operators : List ℕ
 prefix-operators = LogicalNot ∷ BitwiseNot ∷ PlusPlus ∷ MinusMinus ∷ Plus ∷ Minus ∷ Star ∷ Ampersand ∷ []
 
+-- The arm of `validate_expression` for `++` and `--` after an operand.
 unfoldable pub postfix-operators : List ℕ
 postfix-operators = PlusPlus ∷ MinusMinus ∷ []
 

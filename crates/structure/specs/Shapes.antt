@@ -12,20 +12,23 @@ use Rattle.reader.specs.Nodes.{NodeKind, T-node, G-node, B-node, L-node, A-node
 
 -- ---- shapes: the shape of a T is the kind of its token; the others have the names of `TypeSyntax`
 
--- Stands for the shape where there is no node: past the last node of a level, or before its first.
+-- Stands for the shape where there is no node, past the last of a level or before its first: `None` of `nodes.get`.
 abbrev pub NoNode : ℕ
 NoNode = NoToken
 
+-- `TypeSyntax::Parenthesized`: a G.
 abbrev pub Parenthesized : ℕ
 Parenthesized = 59
 
+-- `TypeSyntax::Bracketed`: a B.
 abbrev pub Bracketed : ℕ
 Bracketed = 60
 
+-- `TypeSyntax::TemplateArguments`: an L.
 abbrev pub TemplateArguments : ℕ
 TemplateArguments = 61
 
--- One argument of a list.
+-- One argument of a `TypeSyntax::TemplateArguments`: an A.
 abbrev pub TemplateArgument : ℕ
 TemplateArgument = 62
 
@@ -44,28 +47,28 @@ unfoldable pub empty : Nodes → Bool
 empty none = true
 empty (node k i b x) = false
 
--- The nodes after the first.
+-- The nodes after the first: `&nodes[1..]`.
 unfoldable pub next : Nodes → Nodes
 next none = none
 next (node k i b x) = x
 
--- The arguments that stand below an L, each as its nodes.
+-- The arguments of a `TypeSyntax::TemplateArguments`, each as its nodes: those that stand below an L.
 unfoldable pub arguments-of : Nodes → List Nodes
 arguments-of none = []
 arguments-of (node k i b x) = b ∷ arguments-of x
 
--- One node more at the beginning of the first part.
+-- One node more at the beginning of the first part: for `split_on_commas`.
 unfoldable pub prepend : NodeKind → (token : ℕ) → (below : Nodes) → List Nodes → List Nodes
 prepend k i b [] = []
 prepend k i b (x ∷ xs) = node k i b x ∷ xs
 
--- No part is empty.
+-- No part is empty: `split_on_commas` gives `Some`.
 unfoldable pub parts-are-full : List Nodes → Bool
 parts-are-full [] = true
 parts-are-full (x ∷ xs) = not (empty x) && parts-are-full xs
 
 module _ (kinds : List ℕ) where
-  -- The shape of the first node.
+  -- The shape of the first node: `TypeSyntax`, and of a token its `TokenKind`.
   unfoldable pub shape : Nodes → ℕ
   shape none = NoNode
   shape (node k i b x) = shape-of k (getD kinds i NoNode)
@@ -76,14 +79,15 @@ module _ (kinds : List ℕ) where
   node-identifier words none = no-word
   node-identifier words (node k i b x) = if eqb (shape (node k i b x)) Identifier then getD words i no-word else no-word
 
-  -- Which known word the first node is, exactly and with case ignored.
+  -- Which known word the first node is, exactly: `==` of `node_identifier`.
   abbrev pub exact-word : (words : List ℕ) → Nodes → ℕ
   exact-word words x = exactly (node-identifier words x)
 
+  -- Which known word the first node is with case ignored: `eq_ignore_ascii_case` of `node_identifier`.
   abbrev pub caseless-word : (words : List ℕ) → Nodes → ℕ
   caseless-word words x = ignoring-case (node-identifier words x)
 
-  -- Some node of the level has shape s.
+  -- Some node of the level has shape s: `nodes.iter().any` of `looks_like_abstract_declarator`.
   unfoldable pub any : (s : ℕ) → Nodes → Bool
   any s none = false
   any s (node k i b x) = eqb (shape (node k i b x)) s || any s x

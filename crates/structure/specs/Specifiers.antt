@@ -18,10 +18,11 @@ use Rattle.structure.specs.Moves.{Move, stop, on, inside, on-if}
 
 -- ---- `seen`: how often each builtin type word and each qualifier was seen, by word number (`builtin_words` and `qualifiers` in one list)
 
--- `_Atomic` has the greatest number of them.
+-- `HashMap::new()`. `_Atomic` has the greatest number of these words.
 unfoldable pub none-seen : List ℕ
 none-seen = replicate (suc «_Atomic») 0
 
+-- `words.get(..)`: how often a word was seen.
 unfoldable pub times : (w : ℕ) (seen : List ℕ) → ℕ
 times w seen = getD seen w 0
 
@@ -29,10 +30,11 @@ times w seen = getD seen w 0
 unfoldable pub has : (w : ℕ) (seen : List ℕ) → Bool
 has w seen = ltb 0 (times w seen)
 
+-- `*words.entry(..).or_default() += 1`
 unfoldable pub once-more : (w : ℕ) (seen : List ℕ) → List ℕ
 once-more w seen = set seen w (suc (times w seen))
 
--- How many of these words were seen.
+-- `filter(..).count()`: how many of these words were seen.
 unfoldable pub how-many : (ws seen : List ℕ) → ℕ
 how-many [] seen = 0
 how-many (w ∷ ws) seen =
@@ -71,11 +73,11 @@ validate-c-builtin-combination seen =
 
 -- ---- the loop of `validate_c_decl_specifiers`
 
--- Its variables, below for short: seen, named, elaborated, bit-int, scoped.
+-- The variables of `validate_c_decl_specifiers`, below for short: seen, named, elaborated, bit-int, scoped.
 pub data Specifiers : Type 0 where
   specifiers : (seen : List ℕ) (saw-named-type saw-elaborated saw-bit-int previous-was-scope : Bool) → Specifiers
 
--- After the loop.
+-- `validate_c_decl_specifiers` after its loop.
 unfoldable pub specifiers-end : Specifiers → Bool
 specifiers-end (specifiers seen named elaborated bit-int scoped) =
     if scoped then false
@@ -85,29 +87,29 @@ specifiers-end (specifiers seen named elaborated bit-int scoped) =
 
 -- What is done at a node: s and w are its shape and word, `right` and rw those of the node after it, lw is the word of the node before it.
 
--- A word that makes a specifier with the parentheses after it.
+-- `validate_c_decl_specifiers` at a word that makes a specifier with the parentheses after it.
 unfoldable pub parenthesis-word : (w : ℕ) → Specifiers → Move Specifiers
 parenthesis-word w (specifiers seen named elaborated bit-int scoped) =
     on-if (not named && not elaborated && (if eqb w «_BitInt» then validate-c-bit-int-sign seen else no-builtin-word seen))
     (specifiers seen true elaborated (eqb w «_BitInt») scoped)
 
--- A qualifier.
+-- `validate_c_decl_specifiers` at a qualifier.
 unfoldable pub qualifier-word : (w : ℕ) → Specifiers → Move Specifiers
 qualifier-word w (specifiers seen named elaborated bit-int scoped) =
     on-if (not (has w seen)) (specifiers (once-more w seen) named elaborated bit-int scoped)
 
--- The first word of an elaborated name.
+-- `validate_c_decl_specifiers` at the first word of an elaborated name.
 unfoldable pub elaborated-word : (lang w right : ℕ) → Specifiers → Move Specifiers
 elaborated-word lang w right (specifiers seen named elaborated bit-int scoped) =
     on-if (not (eqb lang C && w is-one-of cpp-elaborated-words) && not named && no-builtin-word seen && not elaborated && eqb right Identifier)
     (specifiers seen named true bit-int scoped)
 
--- A builtin type word.
+-- `validate_c_decl_specifiers` at a builtin type word.
 unfoldable pub builtin-word : (w : ℕ) → Specifiers → Move Specifiers
 builtin-word w (specifiers seen named elaborated bit-int scoped) =
     on-if (not elaborated && (not named || (bit-int && w is-one-of signs))) (specifiers (once-more w seen) named elaborated bit-int false)
 
--- Any other word: a name.
+-- `validate_c_decl_specifiers` at any other word: a name.
 unfoldable pub name-word : Specifiers → Move Specifiers
 name-word (specifiers seen named elaborated bit-int scoped) =
     on-if (no-builtin-word seen && (not named || scoped || elaborated)) (specifiers seen true elaborated bit-int false)
@@ -118,12 +120,12 @@ specifier-scope lang right rw (specifiers seen named elaborated bit-int scoped) 
     on-if (eqb lang Cpp && not scoped && (named || (not elaborated && no-builtin-word seen && eqb right Identifier && not (is-keyword rw))))
     (specifiers seen named elaborated bit-int true)
 
--- A template argument list.
+-- `validate_c_decl_specifiers` at a template argument list.
 unfoldable pub specifier-list : (lang : ℕ) → Specifiers → Move Specifiers
 specifier-list lang (specifiers seen named elaborated bit-int scoped) =
     on-if (eqb lang Cpp && named && not scoped) (specifiers seen named elaborated bit-int scoped)
 
--- The last line is `break`.
+-- `validate_c_decl_specifiers` at a node. The last line is `break`.
 unfoldable pub specifier-node : (lang lw s w right rw : ℕ) → Specifiers → Move Specifiers
 specifier-node lang lw s w right rw st =
     if eqb s Parenthesized && lw is-one-of parenthesis-words then on st
@@ -137,10 +139,11 @@ specifier-node lang lw s w right rw st =
     else stop (specifiers-end st)
 
 module _ (lang : ℕ) (kinds words : List ℕ) where
+  -- The word of the first node, `node_identifier`.
   abbrev word : Nodes → ℕ
   word x = exact-word kinds words x
 
-  -- The loop from a node on.
+  -- The loop of `validate_c_decl_specifiers` from a node on.
   unfoldable pub specifiers-from : Nodes → (lw : ℕ) → Specifiers → Bool
   specifiers-from none lw st = specifiers-end st
   specifiers-from (node k i b x) lw st =

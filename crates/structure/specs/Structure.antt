@@ -21,22 +21,26 @@ use Rattle.structure.specs.Declarators.{declarator-end, abstract-declara
 use Rattle.structure.specs.Expressions.{ExpressionState, expression-state, expression-end, expression-node}
 use Rattle.structure.specs.FortranTypes.{FortranState, fortran-state, fortran-end, fortran-node, validate-fortran-type-head}
 
--- The checks that call one another.
+-- The counted checks that call one another: `validate_c_family_type`, `validate_expression`, `validate_abstract_declarator`.
 pub data Job : Type 0 where
   a-type an-expression a-declarator : Job
 
 module _ (lang : ℕ) (kinds words : List ℕ) where
   -- ---- what is done at the first of the nodes x; `left` and lw: shape and word number of the node before it
 
+  -- `validate_c_family_type` at the first node.
   abbrev pub type-move : (left lw : ℕ) → Nodes → TypeState → Move TypeState
   type-move left lw x st = c-family-node lang left (exactly lw) (shape kinds x) (exact-word kinds words x) (shape kinds (next x)) st
 
+  -- `validate_abstract_declarator` at the first node.
   abbrev pub declarator-move : (left lw : ℕ) → Nodes → DeclaratorState → Move DeclaratorState
   declarator-move left lw x st = abstract-declarator-node lang left (shape kinds x) (exact-word kinds words x) (shape kinds (next x)) st
 
+  -- `validate_expression` at the first node.
   abbrev pub expression-move : (left lw : ℕ) → Nodes → ExpressionState → Move ExpressionState
   expression-move left lw x st = expression-node lang (shape kinds x) st
 
+  -- `validate_fortran_type` at the first node.
   abbrev pub fortran-move : (left lw : ℕ) → Nodes → FortranState → Move FortranState
   fortran-move left lw x st = fortran-node (shape kinds x) (is-single-token kinds Integer (next x)) st
 
@@ -47,7 +51,7 @@ module _ (lang : ℕ) (kinds words : List ℕ) where
     unfoldable pub validate-cpp-template-argument : Nodes → Said
     validate-cpp-template-argument x = both (plain (not (empty x))) (λ _. either (check a-type x) (λ _. check an-expression x))
 
-    -- One parameter.
+    -- One parameter of `validate_parameter_type_list`.
     unfoldable pub validate-parameter : Nodes → Said
     validate-parameter x = either (plain (is-ellipsis kinds x)) (λ _. check a-type x)
 
@@ -62,7 +66,7 @@ module _ (lang : ℕ) (kinds words : List ℕ) where
     validate-fortran-selector-value x =
         either (plain (is-single-token kinds Star x || is-single-token kinds Colon x)) (λ _. check an-expression x)
 
-    -- One selector, with or without a keyword and `=`.
+    -- One selector of `validate_fortran_selector_list`, with or without a keyword and `=`.
     unfoldable pub validate-fortran-selector : Nodes → Said
     validate-fortran-selector x =
         if eqb (shape kinds x) Identifier && eqb (shape kinds (next x)) Equal
@@ -74,7 +78,7 @@ module _ (lang : ℕ) (kinds words : List ℕ) where
     validate-fortran-selector-list x =
         both (plain (not (empty x) && parts-are-full (split-on-commas kinds x))) (λ _. every validate-fortran-selector (split-on-commas kinds x))
 
-    -- What is asked of the nodes b below a node.
+    -- What a `validate_*` function asks of the nodes b below a node.
     unfoldable pub test : Test → Nodes → Said
     test type-name b = check a-type b
     test expression b = check an-expression b
@@ -93,12 +97,13 @@ module _ (lang : ℕ) (kinds words : List ℕ) where
 
     -- The loop over the nodes of a level: S is the type of its variables, `move` what it does at a node, `done` what it returns at its end.
     module _ (S : Type 0) (move : (left lw : ℕ) → Nodes → S → Move S) (done : S → Bool) where
-      -- b: the nodes below the node, f: the loop over the nodes after it.
+      -- A turn of the loop. b: the nodes below the node, f: the loop over the nodes after it; "with its early exits".
       unfoldable pub follow : Move S → (b : Nodes) → (f : S → Said) → Said
       follow (stop r) b f = plain r
       follow (on st) b f = f st
       follow (inside t st) b f = both (test t b) (λ _. f st)
 
+      -- The loop itself, "in the Rust's order".
       unfoldable pub run : Nodes → (left lw : ℕ) → S → Said
       run none left lw st = plain (done st)
       run (node k i b x) left lw st =
@@ -122,7 +127,7 @@ module _ (lang : ℕ) (kinds words : List ℕ) where
     validate-fortran-type x =
         after 1 (both (plain (validate-fortran-type-head kinds words x)) (λ _. run FortranState fortran-move fortran-end x NoNode no-word (fortran-state false false)))
 
-    -- One of the checks.
+    -- One of the counted checks: `validate_c_family_type`, `validate_expression` or `validate_abstract_declarator`.
     unfoldable pub turn : Job → Nodes → Said
     turn a-type x = validate-c-family-type x
     turn an-expression x = validate-expression x
@@ -135,7 +140,7 @@ module _ (lang : ℕ) (kinds words : List ℕ) where
   checkF zero job x = fails 0
   checkF (suc fuel) job x = turn (checkF fuel) job x
 
-  -- The checks of any list of nodes.
+  -- The checks of any list of nodes: the counted `validate_*` functions themselves.
   unfoldable pub checked : Job → Nodes → Said
   checked job x = checkF (suc (count x)) job x
 

@@ -23,7 +23,9 @@ use Rattle.reader.specs.Nodes.{Nodes, none, node, count, numbers-per-token, rec
 use Rattle.reader.specs.Reading.{Got, got, bad, Fault, refusal, no-list, reading}
 use Rattle.structure.specs.Moves.{Said, holds, fails}
 use Rattle.structure.specs.Structure.{validate-structured-syntax}
-use Rattle.profile.specs.Profile.{Lack, nothing, lacks, missing-feature}
+use Rattle.profile.specs.Profile.{missing-feature}
+use Rattle.profile.specs.declared.profile.Lack.{Lack}
+use Rattle.profile.specs.declared.profile.Lack.the-variants.{Nothing, Lacks}
 
 -- ---- the answer to a row
 
@@ -45,14 +47,15 @@ with-structure = 1
 module _ (language standard flag : ℕ) (kinds words : List ℕ) where
   -- "Profile: 40 feature".
   unfoldable pub after-structure : Nodes → (steps : ℕ) → Lack → RowAnswer
-  after-structure x m nothing = accepted x m
-  after-structure x m (lacks f) = refused (NotAvailableInProfile f) m
+  after-structure x m Nothing = accepted x m
+  after-structure x m (Lacks f) = refused (NotAvailableInProfile f) m
 
   -- "Structure, flag 1: 30 no type name".
   unfoldable pub after-reading : Nodes → (steps : ℕ) → Said → RowAnswer
   after-reading x m (holds n) = after-structure x (m + n) (missing-feature language standard kinds words)
   after-reading x m (fails n) = refused NoTypeName (m + n)
 
+  -- "Structure, flag 1": with flag 0 it holds without a step.
   unfoldable pub structure-of : Nodes → Said
   structure-of x = if eqb flag with-structure then validate-structured-syntax language kinds words x else holds 0
 
@@ -60,6 +63,7 @@ module _ (language standard flag : ℕ) (kinds words : List ℕ) where
   unfoldable pub whole-row : (at : ℕ) (half : Bool) → Bool
   whole-row at half = eqb at (length kinds) && not half
 
+  -- "Reading: 20 .., 21 .., 22 .., 23 ..", then the structure.
   unfoldable pub after-prescan : Got → RowAnswer
   after-prescan (bad e m) = refused (refusal-of e) m
   after-prescan (got x at half m) =
@@ -73,7 +77,7 @@ module _ (language standard flag : ℕ) (kinds words : List ℕ) where
   from-prescan (Prescan.refused e) = refused e 0
   from-prescan (passed s) = after-prescan (reading (eqb language Cpp) kinds)
 
-  -- The answer under an allowance that suffices.
+  -- The answer under an allowance that suffices: "Places are tested in the table's order."
   unfoldable pub unlimited : RowAnswer
   unlimited = from-prescan (prescan language kinds)
 
@@ -82,6 +86,7 @@ unfoldable pub limited : (allowance : ℕ) → RowAnswer → RowAnswer
 limited allowance (accepted x m) = if leb m allowance then accepted x m else refused AllowancePassed allowance
 limited allowance (refused e m) = if leb m allowance then refused e m else refused AllowancePassed allowance
 
+-- The "Answer record" of a row under an allowance.
 unfoldable pub answerOf : (language standard flag : ℕ) → (kinds words : List ℕ) → (allowance : ℕ) → RowAnswer
 answerOf language standard flag kinds words allowance = limited allowance (unlimited language standard flag kinds words)
 
@@ -92,15 +97,18 @@ pub data Outcome : Type 0 where
   untouched : TypeNameError → Outcome
   read : RowAnswer → Outcome
 
+-- The place "Buffer" of the table, then the answer to the row.
 unfoldable pub of-row : Head → (room : ℕ) → List RowToken → Outcome
 of-row h room ts =
     if ltb room (numbers-per-token * length ts) then untouched ShortBuffer
     else read (answerOf (h .language) (h .standard) (h .flag) (kinds-of ts) (words-of ts) (h .allowance))
 
+-- The place "Each record in turn", then the row.
 unfoldable pub of-records : Head → (room : ℕ) → Row → Outcome
 of-records h room (Records.refused e) = untouched e
 of-records h room (row ts) = of-row h room ts
 
+-- The place "File", then the records.
 unfoldable pub of-head : (file : List ℕ) (room : ℕ) → FileHead → Outcome
 of-head file room (FileHead.Refused e) = untouched e
 of-head file room (FileHead.Formed h) = of-records h room (records-from format file most-tokens head-length)
@@ -115,7 +123,7 @@ answer-in (untouched e) = Refused e 0
 answer-in (read (accepted x m)) = Accepted (count x) m
 answer-in (read (refused e m)) = Refused e m
 
--- The answer to any file with a tree buffer of any length.
+-- The "Answer record" of any file with a tree buffer of any length.
 unfoldable pub answer : (file : List ℕ) (room : ℕ) → Answer
 answer file room = answer-in (outcome file room)
 
@@ -131,6 +139,6 @@ buffer-in before (untouched e) = before
 buffer-in before (read (accepted x m)) = filled (length before) (records x)
 buffer-in before (read (refused e m)) = filled (length before) []
 
--- What the tree buffer holds in the end, whatever it held before.
+-- What the tree buffer holds in the end: demand 1's "the buffer's contents fixed in each case".
 unfoldable pub final-buffer : (file before : List ℕ) → List ℕ
 final-buffer file before = buffer-in before (outcome file (length before))

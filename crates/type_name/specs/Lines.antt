@@ -30,30 +30,34 @@ pub data Line : Type 0 where
   ok : (nodes steps : ℕ) → Line
   refuses : (number token detail steps : ℕ) → Line
 
+-- "`no 30 65535 0 14` (number, token, detail, steps)".
 abbrev pub refusal-line : TypeNameError → (steps : ℕ) → Line
 refusal-line e m = refuses (refusalOf e .number) (refusalOf e .token) (refusalOf e .detail) m
 
+-- `listing`'s first line for a row's answer.
 unfoldable pub line : RowAnswer → Line
 line (accepted x m) = ok (count x) m
 line (refused e m) = refusal-line e m
 
+-- `listing`'s first line for a file's answer.
 unfoldable pub answer-line : Answer → Line
 answer-line (Accepted nodes m) = ok nodes m
 answer-line (Refused e m) = refusal-line e m
 
--- A row of tokens as the layers above `rows` are given it.
+-- The token kinds of a row of tokens ("lists of kinds, with the word at kind 0").
 unfoldable pub kinds-in : List Token → List ℕ
 kinds-in row = map (λ (t : Token). t .kind) row
 
+-- The word numbers of a row of tokens ("by word number").
 unfoldable pub words-in : List Token → List ℕ
 words-in row = map (λ (t : Token). word-number (t .word)) row
 
--- The line of a row by its kinds and word numbers. Whoever unfolds this computes with all the definitions.
+-- `listing`'s first line for a row by its kinds and word numbers. Whoever unfolds this computes with all the definitions.
 unfoldable pub line-by-numbers : (language standard flag : ℕ) → (kinds words : List ℕ) → Line
 unfolding line count records prescan reading kindAt unlimited from-prescan after-prescan whole-row structure-of after-reading after-structure refusal-of _is-one-of_ known bytes lower same-through same-exactly same-ignoring-case number-among word-number exactly ignoring-case shape-of empty next arguments-of prepend parts-are-full shape node-identifier any is-single-token is-ellipsis split-on-commas builtin-type-words scalar-bases signs declarator-qualifiers parenthesis-words typeof-words elaborated-words cpp-elaborated-words derived-type-words words-after-double is-c-builtin-type-word is-c-family-declarator-qualifier is-keyword reference-operators declarator-starts literals member-accesses accesses-of prefix-operators postfix-operators c-family-operators fortran-operators is-binary-or-assignment-operator after both either plain every on-if inside-if none-seen times has once-more how-many builtin-words too-often no-builtin-word validate-c-bit-int-sign validate-c-builtin-combination specifiers-end parenthesis-word qualifier-word elaborated-word builtin-word name-word specifier-scope specifier-list specifier-node specifiers-from validate-c-decl-specifiers looks-like-abstract-declarator scope-has-valid-neighbors is-part-of-name type-end declarator-end c-family-group c-family-node abstract-declarator-node expression-end expression-node fortran-head validate-fortran-type-head fortran-end fortran-node validate-cpp-template-argument validate-parameter validate-parameter-type-list validate-fortran-selector-value validate-fortran-selector validate-fortran-selector-list test follow run validate-c-family-type validate-expression validate-abstract-declarator validate-fortran-type turn checkF checked validate-structured-syntax some-below kind-is identifier-is some-token has-kind has-adjacent-identifiers has-identifier-call has-identifier-followed-by-star has-assumed-rank uses features least lacking missing-feature
 line-by-numbers language standard flag kinds words = line (unlimited language standard flag kinds words)
 
--- The line of a row of tokens.
+-- `listing`'s first line for a row of tokens.
 unfoldable pub line-of : (language standard flag : ℕ) → List Token → Line
 unfolding line-by-numbers kinds-in words-in
 line-of language standard flag row = line-by-numbers language standard flag (kinds-in row) (words-in row)

@@ -7,7 +7,7 @@ use mathlib.Core.Logic.{_↔_}
 use mathlib.Core.List.{List, [], _∷_, map, List·Memᴰ}
 use lib.ListN.{length, take, drop}
 use Rattle.rows.specs.Kinds.{LeftParen, LeftBracket, ShiftRight}
-use Rattle.rows.specs.Format.{format, head-length, most-tokens}
+use Rattle.rows.specs.Format.{format, head-length, most-tokens, SameOrLater}
 use Rattle.rows.specs.Records.{RowToken, row, head, records-from, kinds-of}
 use Rattle.rows.specs.declared.answer.Answer.{Answer}
 use Rattle.rows.specs.declared.answer.Answer.the-variants.{Accepted, Refused}
@@ -33,7 +33,7 @@ Buffered file before after = after ≡ final-buffer file before
 
 -- ---- demand 3: "Whatever row is accepted, under whichever profile, flag and allowance and whatever the tree buffer held before"
 
--- The file was accepted, with this row, this tree in front of the buffer, and these steps.
+-- "Whatever row is accepted": the file was accepted, with this row, this tree in front of the buffer, and these steps.
 pub record AcceptedAs (file : List ℕ) (a : Answer) (after : List ℕ) (ts : List RowToken) (x : Nodes) (steps : ℕ) : Type 0 where
   pub answered : a ≡ Accepted (count x) steps
   pub row-read : records-from format file most-tokens head-length ≡ row ts
@@ -47,6 +47,7 @@ pub record HasTree (file before : List ℕ) (a : Answer) (after : List ℕ) (ste
   pub defined : outcome file (length before) ≡ read (accepted tree steps)
   pub whole : after ≡ filled (length before) (records tree)
 
+-- "Its tree is the one that demand 2's definition gives".
 abbrev pub TreeDefined : (file before : List ℕ) → Answer → (after : List ℕ) → Type 0
 TreeDefined file before a after = (nodes steps : ℕ) → a ≡ Accepted nodes steps → HasTree file before a after steps
 
@@ -54,6 +55,7 @@ TreeDefined file before a after = (nodes steps : ℕ) → a ≡ Accepted nodes s
 abbrev pub Nested : (file : List ℕ) → Answer → (after : List ℕ) → Type 0
 Nested file a after = (ts : List RowToken) (x : Nodes) (steps : ℕ) → AcceptedAs file a after ts x steps → depth x ≤ MAX-NESTING-DEPTH
 
+-- "Document 01's plain matcher pairs all its brackets", and the groups stand there.
 pub record BracketsOf (kinds : List ℕ) (x : Nodes) : Type 0 where
   -- "document 01's plain matcher pairs all its brackets"
   pub pairs : List Pair
@@ -67,10 +69,11 @@ pub record BracketsOf (kinds : List ℕ) (x : Nodes) : Type 0 where
   pub below-each : (n m : ℕ) → n < count x → m < count x → IsGroup (records x) n → (p : Pair) → List·Memᴰ p pairs → p .opener ≡ token-of (records x) n
       → Below (records x) n m ↔ ((p .opener < token-of (records x) m) × (token-of (records x) m < p .closer))
 
+-- "every `(` has exactly one G ..": of the accepted tree.
 abbrev pub BracketsPaired : (file : List ℕ) → Answer → (after : List ℕ) → Type 0
 BracketsPaired file a after = (ts : List RowToken) (x : Nodes) (steps : ℕ) → AcceptedAs file a after ts x steps → BracketsOf (kinds-of ts) x
 
--- A row as the write-out sees it.
+-- A row as the write-out sees it: "lists of kinds, with the word at kind 0".
 abbrev pub tokens-in : List RowToken → List Token
 tokens-in ts = map (λ (t : RowToken). record { kind = t .kind; word = t .word }) ts
 
@@ -83,6 +86,7 @@ pub record WrittenAs (row : List Token) (kinds : List ℕ) (x : Nodes) : Type 0 
   -- and are the same list throughout if the row has no `>>`."
   pub same-throughout : numbers-of ShiftRight 0 kinds ≡ [] → written row x ≡ row
 
+-- "The tree written out and the row": of the accepted tree.
 abbrev pub WrittenOut : (file : List ℕ) → Answer → (after : List ℕ) → Type 0
 WrittenOut file a after = (ts : List RowToken) (x : Nodes) (steps : ℕ) → AcceptedAs file a after ts x steps → WrittenAs (tokens-in ts) (kinds-of ts) x
 
@@ -94,7 +98,7 @@ pub record NotBelow (file file′ before′ : List ℕ) (ts : List RowToken) (st
   pub formed : head format file ≡ Formed head-of
   pub formed′ : head format file′ ≡ Formed head-of′
   pub same-language : head-of′ .language ≡ head-of .language
-  pub same-or-later : head-of .standard ≤ head-of′ .standard
+  pub same-or-later : SameOrLater (head-of .standard) (head-of′ .standard)
   pub same-flag : head-of′ .flag ≡ head-of .flag
   pub same-records : drop head-length file′ ≡ drop head-length file
   pub enough : steps ≤ head-of′ .allowance

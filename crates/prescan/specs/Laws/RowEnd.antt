@@ -12,15 +12,10 @@ use Rattle.rows.specs.Notation.{if_then_else_}
 use Rattle.rows.specs.Kinds.{NoToken}
 use Rattle.rows.specs.declared.answer.Delimiter.{Delimiter}
 use Rattle.rows.specs.declared.answer.TypeNameError.the-variants.{UnclosedDelimiter, UnclosedAngle, MissingTypeWord, InvalidBoundaryToken}
+use Rattle.rows.specs.Laws.Lookups.{any-default}
 use Rattle.prescan.specs.Prescan.{Scan, Scanned, passed, refused, valid-start, valid-end, row-end}
 use Rattle.prescan.specs.ScanState.{delimiter-of, openers, scan-of}
 use Rattle.prescan.specs.declared.scan.ScanState.{ScanState}
-
--- Within a list the element past its end does not matter.
-pub any-default : (l : List ℕ) (i a b : ℕ) → i < length l → getD l i a ≡ getD l i b
-any-default [] i a b p = absurd (omega arith)
-any-default (x ∷ l) zero a b p = refl
-any-default (x ∷ l) (suc i) a b p = any-default l i a b (omega arith)
 
 module _ (language : ℕ) (kinds stack : List ℕ) (s : ScanState) where
   abbrev ended : Scanned

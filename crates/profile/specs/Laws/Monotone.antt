@@ -10,26 +10,28 @@ use lib.Dec.{leb, ltb}
 use Rattle.rows.specs.Notation.{if_then_else_}
 use Rattle.rows.specs.Refusals.{featureDetail}
 use Rattle.rows.specs.declared.answer.Feature.{Feature}
-use Rattle.profile.specs.Profile.{Since, uses, features, Lack, nothing, lacks, least, lacking, missing-feature}
+use Rattle.profile.specs.Profile.{Since, uses, features, least, lacking, missing-feature}
+use Rattle.profile.specs.declared.profile.Lack.{Lack}
+use Rattle.profile.specs.declared.profile.Lack.the-variants.{Nothing, Lacks}
 
 -- 1 if something is lacking.
 abbrev some-lack : Lack → ℕ
-some-lack nothing = 0
-some-lack (lacks f) = 1
+some-lack Nothing = 0
+some-lack (Lacks f) = 1
 
-by-detail : (b : Bool) (f g : Feature) → some-lack (if b then lacks f else lacks g) ≡ 1
+by-detail : (b : Bool) (f g : Feature) → some-lack (if b then Lacks f else Lacks g) ≡ 1
 by-detail true f g = refl
 by-detail false f g = refl
 
 some-least : (f : Feature) (l : Lack) → some-lack (least f l) ≡ 1
 unfolding least
-some-least f nothing = refl
-some-least f (lacks g) = by-detail (leb (featureDetail f) (featureDetail g)) f g
+some-least f Nothing = refl
+some-least f (Lacks g) = by-detail (leb (featureDetail f) (featureDetail g)) f g
 
 module _ (s s′ : ℕ) (later : s ≤ s′) where
   -- One feature, first there with standard n, used or not; `rest` and rest′ are what is lacking of the others.
-  one-feature : (used : Bool) (f : Feature) (n : ℕ) (rest rest′ : Lack) → (rest ≡ nothing → rest′ ≡ nothing) → (early : Bool) → ltb s n ≡ early
-      → (if used && early then least f rest else rest) ≡ nothing → (if used && ltb s′ n then least f rest′ else rest′) ≡ nothing
+  one-feature : (used : Bool) (f : Feature) (n : ℕ) (rest rest′ : Lack) → (rest ≡ Nothing → rest′ ≡ Nothing) → (early : Bool) → ltb s n ≡ early
+      → (if used && early then least f rest else rest) ≡ Nothing → (if used && ltb s′ n then least f rest′ else rest′) ≡ Nothing
   one-feature false f n rest rest′ ih early e p = ih p
   one-feature true f n rest rest′ ih true e p =
       let clash : _≡_ {A = ℕ} 1 0 = sym (some-least f rest) ∙ ap some-lack p in
@@ -38,13 +40,13 @@ module _ (s s′ : ℕ) (later : s ≤ s′) where
       let has : n ≤ s = ltb-false s n e in
       rw (le-ltb s′ n (omega (arith, has))) (ih p)
 
-  lacking-later : (kinds words : List ℕ) (ss : List Since) → lacking s kinds words ss ≡ nothing → lacking s′ kinds words ss ≡ nothing
+  lacking-later : (kinds words : List ℕ) (ss : List Since) → lacking s kinds words ss ≡ Nothing → lacking s′ kinds words ss ≡ Nothing
   unfolding lacking
   lacking-later kinds words [] p = refl
   lacking-later kinds words (t ∷ ss) p =
       one-feature (uses kinds words (t .feature)) (t .feature) (t .standard) (lacking s kinds words ss) (lacking s′ kinds words ss) (lacking-later kinds words ss) (ltb s (t .standard)) refl p
 
   -- "The same or any later standard of that language."
-  pub nothing-missing-later : (language : ℕ) (kinds words : List ℕ) → missing-feature language s kinds words ≡ nothing → missing-feature language s′ kinds words ≡ nothing
+  pub nothing-missing-later : (language : ℕ) (kinds words : List ℕ) → missing-feature language s kinds words ≡ Nothing → missing-feature language s′ kinds words ≡ Nothing
   unfolding missing-feature
   nothing-missing-later language kinds words p = lacking-later kinds words (features language) p

@@ -1,6 +1,6 @@
 -- A row's tokens by number: which have a kind, and the row from one of them on.
 -- Assumes nothing.
-use Prim.Native.Nat.{ℕ, zero, suc, _≤_, _<_}
+use Prim.Native.Nat.{ℕ, suc, _≤_, _<_}
 use mathlib.Core.Path.{_≡_, refl, sym}
 use mathlib.Core.Logic.{_≢_}
 use mathlib.Core.List.{List, [], _∷_}
@@ -10,6 +10,7 @@ use native.Mathlib.Nat.{lt-of-not-le}
 use lib.ListN.{length, getD, drop, List·getD-eq-default}
 use lib.Seq.{drop-cons}
 use Rattle.rows.specs.Kinds.{NoToken}
+use Rattle.rows.specs.Laws.Lookups.{any-default, past-default}
 use Rattle.reader.specs.Reading.{kindAt}
 
 -- What the row module has checked of every token.
@@ -32,16 +33,11 @@ module _ (row : List ℕ) where
 
 -- ---- a token's kind, as code reads it
 
-getD-any : (l : List ℕ) (n d d′ : ℕ) → n < length l → getD l n d ≡ getD l n d′
-getD-any [] n d d′ h = absurd (omega arith)
-getD-any (x ∷ l) zero d d′ h = refl
-getD-any (x ∷ l) (suc n) d d′ h = getD-any l n d d′ (omega arith)
-
 module _ (row : List ℕ) (a : ℕ) where
   pub kind-in : a < length row → getD row a 0 ≡ kindAt row a
   unfolding kindAt
-  kind-in h = getD-any row a 0 NoToken h
+  kind-in h = any-default row a 0 NoToken h
 
   pub kind-out : length row ≤ a → NoToken ≡ kindAt row a
   unfolding kindAt
-  kind-out h = sym (List·getD-eq-default row NoToken h)
+  kind-out h = past-default row a NoToken h

@@ -34,7 +34,9 @@ use Rattle.reader.specs.Reading.{Got, got, bad, Fault, refusal, no-list, readin
 use Rattle.reader.specs.Laws.Numbered.{FaultNumbered, reading-numbered}
 use Rattle.reader.specs.Laws.Numbered as Read
 use Rattle.structure.specs.Moves.{Said, holds, fails}
-use Rattle.profile.specs.Profile.{Lack, nothing, lacks, missing-feature}
+use Rattle.profile.specs.Profile.{missing-feature}
+use Rattle.profile.specs.declared.profile.Lack.{Lack}
+use Rattle.profile.specs.declared.profile.Lack.the-variants.{Nothing, Lacks}
 use Rattle.type_name.specs.Answers.{RowAnswer, accepted, refused, refusal-of, after-structure, after-reading, structure-of, whole-row, after-prescan, from-prescan, unlimited, limited, answerOf, Outcome, untouched, read, of-row, of-records, of-head, outcome, answer-in, answer, filled, buffer-in, final-buffer}
 
 -- ---- the numbers
@@ -97,8 +99,8 @@ limited-placed allowance (refused e m) p = by-if RowPlaced (leb m allowance) (λ
 module _ (language standard flag : ℕ) (kinds words : List ℕ) where
   structure-placed : (x : Nodes) (m : ℕ) (l : Lack) → RowPlaced (after-structure language standard flag kinds words x m l)
   unfolding after-structure
-  structure-placed x m nothing = tt
-  structure-placed x m (lacks f) = tt
+  structure-placed x m Nothing = tt
+  structure-placed x m (Lacks f) = tt
 
   reading-placed : (x : Nodes) (m : ℕ) (s : Said) → RowPlaced (after-reading language standard flag kinds words x m s)
   unfolding after-reading

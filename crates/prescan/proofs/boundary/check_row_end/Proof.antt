@@ -8,7 +8,7 @@ use borrow.Author.Tests.{not-true, not-false}
 use lib.ListN.{length}
 use Rattle.rows.specs.Kinds.{NoToken}
 use Rattle.prescan.specs.Prescan.{valid-start, valid-end}
-use Rattle.prescan.specs.Laws.RowEnd.{any-default, open-bracket, open-angle, no-identifier, good-boundary, bad-boundary, boundary-test}
+use Rattle.prescan.specs.Laws.RowEnd.{open-bracket, open-angle, no-identifier, good-boundary, bad-boundary, boundary-test}
 use borrow.Author.Needs.{needs}
 use Rattle.prescan.proofs.boundary.check_row_end.Statement.{statement}
 use Rattle.prescan.proofs.boundary.check_row_end.Tie as tie

@@ -5,7 +5,7 @@ use native.Mathlib.Omega.{arith}
 use borrow.Author.Needs.{needs}
 use lib.ListN.{length}
 use Rattle.rows.specs.Kinds.{NoToken}
-use Rattle.prescan.specs.Laws.RowEnd.{any-default}
+use Rattle.rows.specs.Laws.Lookups.{any-default}
 use borrow.Author.Needs.{needs}
 use Rattle.prescan.proofs.boundary.kind_before_last.Statement.{statement}
 use Rattle.prescan.proofs.boundary.kind_before_last.Tie as tie

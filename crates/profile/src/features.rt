@@ -1,0 +1,116 @@
+// What a row uses, by its token kinds and word numbers: the tests of `validate_profile_features`. Words are compared with case ignored.
+
+use rows::kinds::DOT;
+use rows::kinds::IDENTIFIER;
+use rows::kinds::LEFT_PAREN;
+use rows::kinds::NO_TOKEN_KIND;
+use rows::kinds::RIGHT_PAREN;
+use rows::kinds::STAR;
+use rows::word_numbers::NO_WORD;
+use rows::word_numbers::ignoring_case;
+ghost use mathlib.Core.Path.{_≡_};
+ghost use Prim.Native.Nat.{_≤_};
+ghost use lib.ListN.{getD, length};
+ghost use Rattle.rows.specs.Format.{most-tokens};
+ghost use Rattle.rows.specs.Words.{no-word};
+ghost use Rattle.profile.specs.Profile.{kind-is, identifier-is, has-kind, has-adjacent-identifiers, has-identifier-call, has-identifier-followed-by-star, has-assumed-rank};
+
+fn kind_is(kinds: &[u8], at: usize, kind: u8) -> bool
+    ensures { λ r. ⌜ r ≡ kind-is (now (kinds .entry)) at kind ⌝ }
+{
+    if at < kinds.len() {
+        return kinds[at] == kind;
+    }
+    NO_TOKEN_KIND == kind
+}
+
+fn word_at(words: &[u8], at: usize) -> u8
+    ensures { λ r. ⌜ r ≡ getD (now (words .entry)) at no-word ⌝ }
+{
+    if at < words.len() {
+        return words[at];
+    }
+    NO_WORD
+}
+
+fn identifier_is(kinds: &[u8], words: &[u8], at: usize, word: u8) -> bool
+    ensures { λ r. ⌜ r ≡ identifier-is (now (kinds .entry)) (now (words .entry)) at word ⌝ }
+{
+    kind_is(kinds, at, IDENTIFIER) & (ignoring_case(word_at(words, at)) == word)
+}
+
+pub fn has_kind(kinds: &[u8], kind: u8) -> bool
+    ensures { λ r. ⌜ r ≡ has-kind (now (kinds .entry)) kind ⌝ }
+{
+    let mut at = 0;
+    while at < kinds.len() {
+        if kind_is(kinds, at, kind) {
+            return true;
+        }
+        at += 1;
+    }
+    false
+}
+
+pub fn has_adjacent_identifiers(kinds: &[u8], words: &[u8], first: u8, second: u8) -> bool
+    requires { ⌜ length (now kinds) ≤ most-tokens ⌝ }
+    ensures { λ r. ⌜ r ≡ has-adjacent-identifiers (now (kinds .entry)) (now (words .entry)) first second ⌝ }
+{
+    let mut at = 0;
+    while at < kinds.len() {
+        if identifier_is(kinds, words, at, first) & identifier_is(kinds, words, at + 1, second) {
+            return true;
+        }
+        at += 1;
+    }
+    false
+}
+
+pub fn has_identifier_call(kinds: &[u8], words: &[u8], name: u8) -> bool
+    requires { ⌜ length (now kinds) ≤ most-tokens ⌝ }
+    ensures { λ r. ⌜ r ≡ has-identifier-call (now (kinds .entry)) (now (words .entry)) name ⌝ }
+{
+    let mut at = 0;
+    while at < kinds.len() {
+        if identifier_is(kinds, words, at, name) & kind_is(kinds, at + 1, LEFT_PAREN) {
+            return true;
+        }
+        at += 1;
+    }
+    false
+}
+
+pub fn has_identifier_followed_by_star(kinds: &[u8], words: &[u8], name: u8) -> bool
+    requires { ⌜ length (now kinds) ≤ most-tokens ⌝ }
+    ensures { λ r. ⌜ r ≡ has-identifier-followed-by-star (now (kinds .entry)) (now (words .entry)) name ⌝ }
+{
+    let mut at = 0;
+    while at < kinds.len() {
+        if identifier_is(kinds, words, at, name)
+            & kind_is(kinds, at + 1, LEFT_PAREN)
+            & kind_is(kinds, at + 2, STAR)
+        {
+            return true;
+        }
+        at += 1;
+    }
+    false
+}
+
+pub fn has_assumed_rank(kinds: &[u8]) -> bool
+    requires { ⌜ length (now kinds) ≤ most-tokens ⌝ }
+    ensures { λ r. ⌜ r ≡ has-assumed-rank (now (kinds .entry)) ⌝ }
+{
+    let mut at = 0;
+    while at < kinds.len() {
+        if kind_is(kinds, at, LEFT_PAREN)
+            & kind_is(kinds, at + 1, DOT)
+            & kind_is(kinds, at + 2, DOT)
+            & kind_is(kinds, at + 3, RIGHT_PAREN)
+        {
+            return true;
+        }
+        at += 1;
+    }
+    false
+}
