@@ -8,3 +8,8 @@ pub mod Tables
 pub mod Found
 pub mod Waits
 pub mod Heads
+pub mod Walks
+pub mod Runs
+pub mod Parts
+pub mod Checks
+pub mod Inside

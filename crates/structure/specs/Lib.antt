@@ -9,5 +9,7 @@ pub mod Structure
 pub mod Stands
 pub mod Represented
 pub mod Allowance
+pub mod Says
+pub mod Parts
 pub mod Laws
 pub mod Examples
