@@ -8,3 +8,5 @@ pub mod Tables
 pub mod Found
 pub mod Waits
 pub mod Heads
+pub mod SpecifierTables
+pub mod SpecifierLoop

@@ -7,5 +7,6 @@ pub mod moves;
 pub mod nodes;
 pub mod sets;
 pub mod shapes;
+pub mod specifiers;
 pub mod tables;
 pub mod words;
