@@ -13,3 +13,5 @@ pub mod Runs
 pub mod Parts
 pub mod Checks
 pub mod Inside
+pub mod SpecifierTables
+pub mod SpecifierLoop

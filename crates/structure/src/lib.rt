@@ -10,5 +10,6 @@ pub mod parts;
 pub mod sets;
 pub mod shapes;
 pub mod specifiers;
+pub mod syntax;
 pub mod tables;
 pub mod words;
