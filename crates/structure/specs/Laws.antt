@@ -8,3 +8,10 @@ pub mod Tables
 pub mod Found
 pub mod Waits
 pub mod Heads
+pub mod Walks
+pub mod Runs
+pub mod Parts
+pub mod Checks
+pub mod Inside
+pub mod SpecifierTables
+pub mod SpecifierLoop

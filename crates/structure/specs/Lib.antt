@@ -8,6 +8,9 @@ pub mod FortranTypes
 pub mod Structure
 pub mod Stands
 pub mod Represented
+pub mod RepresentedSpecifiers
 pub mod Allowance
+pub mod Says
+pub mod Parts
 pub mod Laws
 pub mod Examples

@@ -1,10 +1,15 @@
-// The head of a Fortran type name, and what the loop of `validate_fortran_type` does at a node.
+// Fortran type names: the head, what the loop does at a node, and the check.
 
+use crate::checks::test;
 use crate::moves::FortranLoop;
 use crate::moves::FortranMove;
 use crate::moves::Inner;
+use crate::moves::Verdict;
+use crate::moves::plain;
 use crate::nodes::Lookup;
+use crate::nodes::is_single_token;
 use crate::nodes::node_at;
+use crate::nodes::node_end;
 use crate::nodes::node_identifier;
 use crate::nodes::shape_at;
 use crate::sets::is_derived_type_word;
@@ -13,12 +18,15 @@ use crate::shapes::PARENTHESIZED;
 use crate::words::DOUBLE;
 use crate::words::OTHER_CASE;
 use rows::kinds::IDENTIFIER;
+use rows::kinds::INTEGER;
 use rows::kinds::STAR;
 ghost use mathlib.Core.Path.{_≡_};
 ghost use Rattle.rows.specs.Words.{ignoring-case};
 ghost use Rattle.structure.specs.FortranTypes.{fortran-node, fortran-head, validate-fortran-type-head};
 ghost use Rattle.structure.specs.Represented.{fortran-move-of, fortran-state-of};
+ghost use Rattle.structure.specs.Structure.{validate-fortran-type};
 ghost use Rattle.structure.specs.Stands.{Ready, Of};
+ghost use Rattle.structure.specs.Says.{Answers};
 
 // `last`: one node follows, an integer.
 pub fn fortran_node(shape: u8, last: bool, st: FortranLoop) -> FortranMove
@@ -96,4 +104,55 @@ pub fn validate_fortran_type_head(
     let right = shape_at(tree, kinds, next, to);
     let second = ignoring_case(node_identifier(tree, kinds, words, next, to));
     head_holds(shape, word, right, second)
+}
+
+pub fn validate_fortran_type(
+    language: u8,
+    tree: &[u32],
+    kinds: &[u8],
+    words: &[u8],
+    from: usize,
+    to: usize,
+    allowed: usize,
+) -> Verdict
+    requires { ⌜ Ready (now tree) (now kinds) (now words) from to ⌝ }
+    ensures { λ r. ⌜ Answers validate-fortran-type language (now (tree .entry)) (now (kinds .entry)) (now (words .entry)) from to allowed r ⌝ }
+{
+    if allowed == 0 {
+        return Verdict::Spent;
+    }
+    let mut left = allowed - 1;
+    if !validate_fortran_type_head(tree, kinds, words, from, to) {
+        return Verdict::Fails(left);
+    }
+    let mut st = FortranLoop {
+        word: false,
+        selector: false,
+    };
+    let mut at = from;
+    while at < to {
+        let shape = shape_at(tree, kinds, at, to);
+        let end = node_end(tree, kinds, at, to);
+        let last = is_single_token(tree, kinds, INTEGER, end, to);
+        let act = fortran_node(shape, last, st);
+        match act {
+            FortranMove::Stop(holds) => return plain(holds, left),
+            FortranMove::On(next) => {
+                st = next;
+            }
+            FortranMove::Inside(inner, next) => {
+                let said = test(language, tree, kinds, words, inner, at + 1, end, left);
+                match said {
+                    Verdict::Holds(steps) => {
+                        left = steps;
+                        st = next;
+                    }
+                    Verdict::Fails(steps) => return Verdict::Fails(steps),
+                    Verdict::Spent => return Verdict::Spent,
+                }
+            }
+        }
+        at = end;
+    }
+    plain(st.word, left)
 }

@@ -114,13 +114,16 @@ module _ {tree kinds : List ℕ} {from to : ℕ} where
 -- ---- three dots
 
 module _ {tree kinds : List ℕ} where
-  -- a shape that is not `nothing` is that of a node
-  pub inside-range : {at to s : ℕ} → Formed tree kinds at to → Of tree kinds at to (λ x. s ≡ shape kinds x) → s ≡ 16 → at < to
-  inside-range {at} {to} f sh e =
+  -- A shape that is not `NoNode` is that of a node.
+  pub shaped-range : {at to s : ℕ} → Formed tree kinds at to → Of tree kinds at to (λ x. s ≡ shape kinds x) → s < 58 → at < to
+  shaped-range {at} {to} f sh h =
       elim (decLe to at) [
-        | yes p ↦ let u = sh (f .nodes) (f .stands) ∙ shape-none (f .stands) p in absurd (omega (arith, u, e))
+        | yes p ↦ let u = sh (f .nodes) (f .stands) ∙ shape-none (f .stands) p in absurd (omega (arith, u, h))
         | no p ↦ omega arith
       ]
+
+  pub inside-range : {at to s : ℕ} → Formed tree kinds at to → Of tree kinds at to (λ x. s ≡ shape kinds x) → s ≡ 16 → at < to
+  inside-range f sh e = shaped-range f sh (omega (arith, e))
 
   pub formed-next : {at to e : ℕ} → Formed tree kinds at to → at < to → Of tree kinds at to (λ x. e ≡ suc (at + count (below x))) → Formed tree kinds e to
   formed-next {to = to} f h en = record {
@@ -130,7 +133,7 @@ module _ {tree kinds : List ℕ} where
     few = f .few;
   }
 
-  stands-next : {at to e : ℕ} {x : Nodes} → Stands tree kinds at to x → at < to → Of tree kinds at to (λ x. e ≡ suc (at + count (below x))) → Stands tree kinds e to (next x)
+  pub stands-next : {at to e : ℕ} {x : Nodes} → Stands tree kinds at to x → at < to → Of tree kinds at to (λ x. e ≡ suc (at + count (below x))) → Stands tree kinds e to (next x)
   stands-next {to = to} {x = x} t h en = subst (λ (u : ℕ). Stands tree kinds u to (next x)) (sym (en x t)) (first t h .rest)
 
   module _ {from to s₁ : ℕ} (sh₁ : Of tree kinds from to (λ x. s₁ ≡ shape kinds x)) where

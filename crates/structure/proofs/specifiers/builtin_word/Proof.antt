@@ -1,0 +1,26 @@
+-- `builtin_word` meets its contract. Assumes nothing.
+use mathlib.Core.Path.{refl}
+use native.Mathlib.Omega.{arith}
+use borrow.Author.Needs.{needs}
+use Rattle.structure.specs.Specifiers.{builtin-word}
+use Rattle.structure.specs.Laws.SpecifierTables.{moved}
+use borrow.Author.Needs.{needs}
+use Rattle.structure.proofs.specifiers.builtin_word.Statement.{statement}
+use Rattle.structure.proofs.specifiers.builtin_word.Tie as tie
+use Rattle.structure.proofs.specifiers.builtin_word.Reads as reads
+use Rattle.structure.proofs.specifiers.builtin_word.Lts as lts
+use Rattle.structure.proofs.sets.is_sign.Reads as is-sign-reads
+use Rattle.structure.proofs.specifiers.count_if.Reads as count-if-reads
+
+is-sign-requires : tie.Need-is-sign-requires
+is-sign-requires c κs = search needs
+
+count-if-requires : tie.Need-count-if-requires
+count-if-requires c κs = search needs
+
+returns : tie.Need-returns
+unfolding builtin-word
+returns c = moved (c .count-if .ensures _) (rw (c .before .before .before .before .is-sign .ensures))
+
+pub builtin-word-spec : {M : Type 1} → statement M
+builtin-word-spec = tie.close (tie.spec is-sign-requires count-if-requires returns)

@@ -1,0 +1,27 @@
+-- `builtin_words_are_valid` meets its contract. Assumes nothing.
+use borrow.Author.Needs.{needs}
+use borrow.Author.Tests.{eq-eqb, ne-eqb}
+use borrow.Author.Needs.{needs}
+use Rattle.structure.proofs.specifiers.builtin_words_are_valid.Statement.{statement}
+use Rattle.structure.proofs.specifiers.builtin_words_are_valid.Tie as tie
+use Rattle.structure.proofs.specifiers.builtin_words_are_valid.Reads as reads
+use Rattle.structure.proofs.specifiers.builtin_words_are_valid.Lts as lts
+use Rattle.structure.proofs.combination.validate_c_bit_int_sign.Reads as validate-c-bit-int-sign-reads
+use Rattle.structure.proofs.specifiers.no_builtin_word.Reads as no-builtin-word-reads
+
+validate-c-bit-int-sign-requires : tie.Need-validate-c-bit-int-sign-requires
+validate-c-bit-int-sign-requires c κs = search needs
+
+returns : tie.Need-returns
+returns c = rw (eq-eqb _ _ (c .before .if1 .taken)) (c .validate-c-bit-int-sign .ensures)
+
+no-builtin-word-requires : tie.Need-no-builtin-word-requires
+no-builtin-word-requires c κs = search needs
+
+returns-2 : tie.Need-returns-2
+returns-2 c = rw (ne-eqb _ _ (c .before .if1 .left)) (c .no-builtin-word .ensures)
+
+pub builtin-words-are-valid-spec : {M : Type 1} → statement M
+builtin-words-are-valid-spec =
+    tie.close
+    (tie.spec validate-c-bit-int-sign-requires returns no-builtin-word-requires returns-2)

@@ -1,0 +1,20 @@
+-- `exactly` meets its contract. Assumes nothing.
+use native.Mathlib.Omega.{arith}
+use borrow.Author.Needs.{needs}
+use borrow.Author.Tests.{lt-ltb, le-ltb}
+use Rattle.rows.specs.Words.{exactly}
+use Rattle.structure.proofs.specifiers.exactly.Statement.{statement}
+use Rattle.structure.proofs.specifiers.exactly.Tie as tie
+use Rattle.structure.proofs.specifiers.exactly.Reads as reads
+use Rattle.structure.proofs.specifiers.exactly.Lts as lts
+
+returns : tie.Need-returns
+unfolding exactly
+returns c = rw (lt-ltb _ _ (c .if1 .taken))
+
+returns-2 : tie.Need-returns-2
+unfolding exactly
+returns-2 c = rw (le-ltb _ _ (c .if1 .left))
+
+pub exactly-spec : {M : Type 1} → statement M
+exactly-spec = tie.close (tie.spec returns returns-2)

@@ -1,0 +1,141 @@
+-- What the four loops of the code say so far, and what they do at a node. Assumes nothing.
+use Prim.Native.Nat.{ℕ, suc, _+_, _≤_, _<_}
+use mathlib.Core.Path.{_≡_, refl, sym, ap, _∙_, subst}
+use mathlib.Core.Bool.{Bool, true, false}
+use mathlib.Core.List.{List}
+use native.Mathlib.Omega.{arith}
+use Rattle.rows.specs.Kinds.{Integer}
+use Rattle.rows.specs.Words.{no-word, exactly}
+use Rattle.reader.specs.Nodes.{Nodes, count}
+use Rattle.structure.specs.Shapes.{NoNode, next, shape, exact-word, is-single-token}
+use Rattle.structure.specs.Moves.{Said, after, both, plain, Move}
+use Rattle.structure.specs.Specifiers.{validate-c-decl-specifiers}
+use Rattle.structure.specs.Declarators.{TypeState, type-state, type-end, c-family-node, DeclaratorState, declarator-state, declarator-end, abstract-declarator-node}
+use Rattle.structure.specs.Expressions.{ExpressionState, expression-state, expression-end, expression-node}
+use Rattle.structure.specs.FortranTypes.{FortranState, fortran-state, fortran-end, fortran-node, validate-fortran-type-head}
+use Rattle.structure.specs.Structure.{a-type, an-expression, a-declarator, checked, turn, run, type-move, declarator-move, expression-move, fortran-move}
+use Rattle.structure.specs.Structure.{validate-c-family-type, validate-expression, validate-abstract-declarator, validate-fortran-type}
+use Rattle.structure.specs.Stands.{Of, below}
+use Rattle.structure.specs.Represented.{type-state-of, type-move-of, declarator-state-of, declarator-move-of, expression-state-of, expression-move-of}
+use Rattle.structure.specs.Represented.{fortran-state-of, fortran-move-of, Moves, Waits}
+use Rattle.structure.specs.Laws.Fixed.{fixed}
+use Rattle.structure.specs.Laws.Walks.{after-it}
+use Rattle.structure.specs.Laws.Runs.{Run}
+use Rattle.structure.specs.declared.moves.Inner.{Inner}
+use Rattle.structure.specs.declared.moves.TypeLoop.{TypeLoop}
+use Rattle.structure.specs.declared.moves.TypeMove.{TypeMove}
+use Rattle.structure.specs.declared.moves.DeclaratorLoop.{DeclaratorLoop}
+use Rattle.structure.specs.declared.moves.DeclaratorMove.{DeclaratorMove}
+use Rattle.structure.specs.declared.moves.ExpressionLoop.{ExpressionLoop}
+use Rattle.structure.specs.declared.moves.ExpressionMove.{ExpressionMove}
+use Rattle.structure.specs.declared.moves.ExpressionMove.the-variants as E
+use Rattle.structure.specs.declared.moves.FortranLoop.{FortranLoop}
+use Rattle.structure.specs.declared.moves.FortranMove.{FortranMove}
+
+-- ---- the entries
+
+module _ (lang : ℕ) (kinds words : List ℕ) where
+  abbrev type-body : Nodes → Said
+  type-body x = run lang kinds words (checked lang kinds words) TypeState (type-move lang kinds words) type-end x NoNode no-word (type-state false false false)
+
+  abbrev declarator-body : Nodes → Said
+  declarator-body x =
+      run lang kinds words (checked lang kinds words) DeclaratorState (declarator-move lang kinds words) declarator-end x NoNode no-word (declarator-state false false)
+
+  abbrev expression-body : Nodes → Said
+  expression-body x =
+      run lang kinds words (checked lang kinds words) ExpressionState (expression-move lang kinds words) expression-end x NoNode no-word (expression-state true false 0)
+
+  abbrev fortran-body : Nodes → Said
+  fortran-body x = run lang kinds words (checked lang kinds words) FortranState (fortran-move lang kinds words) fortran-end x NoNode no-word (fortran-state false false)
+
+  pub type-entry : (x : Nodes) → checked lang kinds words a-type x ≡ after 1 (both (plain (validate-c-decl-specifiers lang kinds words x)) (λ _. type-body x))
+  unfolding turn validate-c-family-type
+  type-entry x = fixed lang kinds words a-type x
+
+  pub declarator-entry : (x : Nodes) → checked lang kinds words a-declarator x ≡ after 1 (declarator-body x)
+  unfolding turn validate-abstract-declarator
+  declarator-entry x = fixed lang kinds words a-declarator x
+
+  pub expression-entry : (x : Nodes) → checked lang kinds words an-expression x ≡ after 1 (expression-body x)
+  unfolding turn validate-expression
+  expression-entry x = fixed lang kinds words an-expression x
+
+  pub fortran-entry : (x : Nodes) → validate-fortran-type lang kinds words (checked lang kinds words) x
+      ≡ after 1 (both (plain (validate-fortran-type-head kinds words x)) (λ _. fortran-body x))
+  unfolding validate-fortran-type
+  fortran-entry x = refl
+
+-- ---- the loops
+
+module _ (lang : ℕ) (tree kinds words : List ℕ) (from to allowed left : ℕ) where
+  -- It keeps the shape before and the known word before.
+  abbrev pub InType : (st : TypeLoop) (before word-before at : ℕ) → Type 0
+  InType st before word-before at =
+      Run lang kinds words TypeState (type-move lang kinds words) type-end (checked lang kinds words a-type) (λ l w. (before ≡ l) × (word-before ≡ exactly w))
+      tree from to allowed left (type-state-of st) at
+
+  abbrev pub InDeclarator : (st : DeclaratorLoop) (before at : ℕ) → Type 0
+  InDeclarator st before at =
+      Run lang kinds words DeclaratorState (declarator-move lang kinds words) declarator-end (checked lang kinds words a-declarator) (λ l w. before ≡ l)
+      tree from to allowed left (declarator-state-of st) at
+
+  -- No more `?` wait than nodes were met.
+  abbrev pub InExpression : (st : ExpressionLoop) (at : ℕ) → Type 0
+  InExpression st at =
+      Run lang kinds words ExpressionState (expression-move lang kinds words) expression-end (checked lang kinds words an-expression) (λ l w. st .depth ≤ at)
+      tree from to allowed left (expression-state-of st) at
+
+  abbrev pub InFortran : (st : FortranLoop) (at : ℕ) → Type 0
+  InFortran st at =
+      Run lang kinds words FortranState (fortran-move lang kinds words) fortran-end (validate-fortran-type lang kinds words (checked lang kinds words)) (λ l w. Unit {0})
+      tree from to allowed left (fortran-state-of st) at
+
+pub no-word-before : 0 ≡ exactly no-word
+unfolding exactly
+no-word-before = refl
+
+-- ---- what they do at a node: the table's answer is the move of the definition
+
+module _ {lang : ℕ} {tree kinds words : List ℕ} {from to allowed left : ℕ} {st : TypeLoop} {before word-before at : ℕ}
+    (lp : InType lang tree kinds words from to allowed left st before word-before at) {s w e right : ℕ} {m : TypeMove} (h : at < to)
+    (sh : Of tree kinds at to (λ x. s ≡ shape kinds x)) (wd : Of tree kinds at to (λ x. w ≡ exact-word kinds words x))
+    (en : Of tree kinds at to (λ x. e ≡ suc (at + count (below x)))) (rt : Of tree kinds e to (λ x. right ≡ shape kinds x))
+    (mv : type-move-of m ≡ c-family-node lang before word-before s w right (type-state-of st)) where
+  pub type-moved : {u : TypeMove} → m ≡ u → type-move lang kinds words (lp .left-shape) (lp .left-word) (lp .walk .rest) (type-state-of st) ≡ type-move-of u
+  type-moved q =
+      rw (← lp .known .0, ← lp .known .1, ← sh (lp .walk .rest) (lp .walk .stands), ← wd (lp .walk .rest) (lp .walk .stands), ← rt (next (lp .walk .rest)) (after-it (lp .walk) h en))
+      (sym mv ∙ ap type-move-of q)
+
+module _ {lang : ℕ} {tree kinds words : List ℕ} {from to allowed left : ℕ} {st : DeclaratorLoop} {before at : ℕ}
+    (lp : InDeclarator lang tree kinds words from to allowed left st before at) {s w e right : ℕ} {m : DeclaratorMove} (h : at < to)
+    (sh : Of tree kinds at to (λ x. s ≡ shape kinds x)) (wd : Of tree kinds at to (λ x. w ≡ exact-word kinds words x))
+    (en : Of tree kinds at to (λ x. e ≡ suc (at + count (below x)))) (rt : Of tree kinds e to (λ x. right ≡ shape kinds x))
+    (mv : declarator-move-of m ≡ abstract-declarator-node lang before s w right (declarator-state-of st)) where
+  pub declarator-moved : {u : DeclaratorMove} → m ≡ u
+      → declarator-move lang kinds words (lp .left-shape) (lp .left-word) (lp .walk .rest) (declarator-state-of st) ≡ declarator-move-of u
+  declarator-moved q =
+      rw (← lp .known, ← sh (lp .walk .rest) (lp .walk .stands), ← wd (lp .walk .rest) (lp .walk .stands), ← rt (next (lp .walk .rest)) (after-it (lp .walk) h en))
+      (sym mv ∙ ap declarator-move-of q)
+
+module _ {lang : ℕ} {tree kinds words : List ℕ} {from to allowed left : ℕ} {st : ExpressionLoop} {at : ℕ}
+    (lp : InExpression lang tree kinds words from to allowed left st at) {s n : ℕ} {m : ExpressionMove}
+    (sh : Of tree kinds at to (λ x. s ≡ shape kinds x)) (mv : Moves n m (expression-node lang s (expression-state-of st))) where
+  pub expression-moved : {u : ExpressionMove} → m ≡ u
+      → expression-move lang kinds words (lp .left-shape) (lp .left-word) (lp .walk .rest) (expression-state-of st) ≡ expression-move-of u
+  expression-moved q = rw (← sh (lp .walk .rest) (lp .walk .stands)) (sym (mv .is) ∙ ap expression-move-of q)
+
+module _ {n : ℕ} {m : ExpressionMove} {a : Move ExpressionState} (mv : Moves n m a) where
+  pub waits-on : {st : ExpressionLoop} → m ≡ E.On st → st .depth ≤ n
+  waits-on q = subst (λ (u : ExpressionMove). Waits n u) q (mv .waits)
+
+  pub waits-inside : {t : Inner} {st : ExpressionLoop} → m ≡ E.Inside t st → st .depth ≤ n
+  waits-inside q = subst (λ (u : ExpressionMove). Waits n u) q (mv .waits)
+
+module _ {lang : ℕ} {tree kinds words : List ℕ} {from to allowed left : ℕ} {st : FortranLoop} {at : ℕ}
+    (lp : InFortran lang tree kinds words from to allowed left st at) {s e : ℕ} {one : Bool} {m : FortranMove} (h : at < to)
+    (sh : Of tree kinds at to (λ x. s ≡ shape kinds x)) (en : Of tree kinds at to (λ x. e ≡ suc (at + count (below x))))
+    (ln : Of tree kinds e to (λ x. one ≡ is-single-token kinds Integer x)) (mv : fortran-move-of m ≡ fortran-node s one (fortran-state-of st)) where
+  pub fortran-moved : {u : FortranMove} → m ≡ u
+      → fortran-move lang kinds words (lp .left-shape) (lp .left-word) (lp .walk .rest) (fortran-state-of st) ≡ fortran-move-of u
+  fortran-moved q = rw (← sh (lp .walk .rest) (lp .walk .stands), ← ln (next (lp .walk .rest)) (after-it (lp .walk) h en)) (sym mv ∙ ap fortran-move-of q)

@@ -1,0 +1,121 @@
+-- A walk over the nodes of a level under an allowance, whatever is done at each node. Assumes nothing.
+use Prim.Native.Nat.{ℕ, suc, _+_, _-_, _*_, _≤_, _<_}
+use mathlib.Core.Path.{_≡_, refl, sym, ap, _∙_, subst}
+use mathlib.Core.Bool.{Bool, true, false}
+use mathlib.Core.List.{List}
+use native.Mathlib.Omega.{arith}
+use native.Mathlib.Numerals.{add-one}
+use lib.ListN.{length}
+use Rattle.reader.specs.Nodes.{Nodes, count}
+use Rattle.structure.specs.Shapes.{next}
+use Rattle.structure.specs.Moves.{Said, both, plain}
+use Rattle.structure.specs.Stands.{Stands, Formed, Ready, Of, below}
+use Rattle.structure.specs.Allowance.{limited}
+use Rattle.structure.specs.Says.{Says}
+use Rattle.structure.specs.Laws.Ranges.{first, unique}
+use Rattle.structure.specs.Laws.Limits.{on-holds, limited-both}
+use Rattle.structure.specs.declared.moves.Verdict.{Verdict}
+use Rattle.structure.specs.declared.moves.Verdict.the-variants.{Holds, Fails, Spent}
+
+-- The check `whole` of all the nodes, with the steps allowed, comes to what `todo` of the nodes from `at` on does with the steps that are left.
+pub record Walk (tree kinds : List ℕ) (whole : Nodes → Said) (from to allowed left : ℕ) (todo : Nodes → Said) (at : ℕ) : Type 0 where
+  pub rest : Nodes
+  pub stands : Stands tree kinds at to rest
+  pub room : 3 * to ≤ length tree
+  pub few : to ≤ 65536
+  pub past : from ≤ at
+  pub is : (x : Nodes) → Stands tree kinds from to x → limited allowed (whole x) ≡ limited left (todo rest)
+
+-- What is done at the nodes `rest`: the check f of the nodes from a to e, and if it holds todo′ of the nodes from at′ on.
+pub record Turn (tree kinds : List ℕ) (todo f todo′ : Nodes → Said) (to : ℕ) (rest : Nodes) (at a e at′ : ℕ) : Type 0 where
+  pub part : Nodes
+  pub part-stands : Stands tree kinds a e part
+  pub after : Nodes
+  pub after-stands : Stands tree kinds at′ to after
+  pub further : at ≤ at′
+  pub is : todo rest ≡ both (f part) (λ _. todo′ after)
+
+module _ {tree kinds : List ℕ} {whole : Nodes → Said} {from to allowed : ℕ} where
+  pub walk-start : {left : ℕ} (todo : Nodes → Said) → Formed tree kinds from to
+      → ((x : Nodes) → Stands tree kinds from to x → limited allowed (whole x) ≡ limited left (todo x)) → Walk tree kinds whole from to allowed left todo from
+  walk-start {left} todo r e = record {
+    rest = r .nodes;
+    stands = r .stands;
+    room = r .room;
+    few = r .few;
+    past = omega arith;
+    is = λ x s. e x s ∙ ap (λ (y : Nodes). limited left (todo y)) (unique s (r .stands));
+  }
+
+  module _ {left : ℕ} {todo : Nodes → Said} {at : ℕ} (lp : Walk tree kinds whole from to allowed left todo at) where
+    pub walk-formed : Formed tree kinds at to
+    walk-formed = record { nodes = lp .rest; stands = lp .stands; room = lp .room; few = lp .few }
+
+    -- A range within what is left of the level.
+    pub walk-part : {words : List ℕ} {a e : ℕ} {part : Nodes} → Stands tree kinds a e part → e ≤ to → length words ≡ length kinds → Ready tree kinds words a e
+    walk-part s h k = record {
+      formed = record { nodes = _; stands = s; room = omega (arith, lp .room); few = omega (arith, lp .few) };
+      worded = k;
+    }
+
+    pub walk-ends : (r : Bool) {v : Verdict} → todo (lp .rest) ≡ plain r → v ≡ limited left (plain r) → Says tree kinds from to allowed whole v
+    walk-ends r t e = record { says = λ x s. e ∙ sym (lp .is x s ∙ ap (limited left) t) }
+
+    -- On to other nodes without a check.
+    pub walk-on : {at′ : ℕ} {rest′ : Nodes} (todo′ : Nodes → Said) → todo (lp .rest) ≡ todo′ rest′ → Stands tree kinds at′ to rest′ → at ≤ at′
+        → Walk tree kinds whole from to allowed left todo′ at′
+    walk-on todo′ t s h = record {
+      rest = _;
+      stands = s;
+      room = lp .room;
+      few = lp .few;
+      past = omega (arith, lp .past);
+      is = λ x u. lp .is x u ∙ ap (limited left) t;
+    }
+
+    -- A check of some nodes first.
+    module _ {f todo′ : Nodes → Said} {a e at′ : ℕ} {v : Verdict} (t : Turn tree kinds todo f todo′ to (lp .rest) at a e at′) (sv : Says tree kinds a e left f v) where
+      gone : limited left (todo (lp .rest)) ≡ on-holds v (λ m. limited m (todo′ (t .after)))
+      gone = ap (limited left) (t .is) ∙ limited-both left _ _ ∙ rw (← sv .says (t .part) (t .part-stands))
+
+      pub walk-fails : {m : ℕ} → v ≡ Fails m → Says tree kinds from to allowed whole (Fails m)
+      unfolding on-holds
+      walk-fails q = record { says = λ x u. sym (lp .is x u ∙ gone ∙ rw q) }
+
+      pub walk-spent : v ≡ Spent → Says tree kinds from to allowed whole Spent
+      unfolding on-holds
+      walk-spent q = record { says = λ x u. sym (lp .is x u ∙ gone ∙ rw q) }
+
+      pub walk-holds : {m : ℕ} → v ≡ Holds m → Walk tree kinds whole from to allowed m todo′ at′
+      unfolding on-holds
+      walk-holds q = record {
+        rest = t .after;
+        stands = t .after-stands;
+        room = lp .room;
+        few = lp .few;
+        past = omega (arith, lp .past, t .further);
+        is = λ x u. lp .is x u ∙ gone ∙ rw q;
+      }
+
+    -- The node at hand ends at e.
+    module _ (h : at < to) {e : ℕ} (en : Of tree kinds at to (λ x. e ≡ suc (at + count (below x)))) where
+      ended : e ≡ suc (at + count (below (lp .rest)))
+      ended = en (lp .rest) (lp .stands)
+
+      pub after-it : Stands tree kinds e to (next (lp .rest))
+      after-it = subst (λ (u : ℕ). Stands tree kinds u to (next (lp .rest))) (sym ended) (first (lp .stands) h .rest)
+
+      pub below-it : Stands tree kinds (at + 1) e (below (lp .rest))
+      below-it = subst (λ (u : ℕ). Stands tree kinds (at + 1) u (below (lp .rest))) (sym ended) (rw add-one (first (lp .stands) h .inner))
+
+      pub walk-further : at < e
+      walk-further = omega (arith, ended)
+
+      pub walk-fits : e ≤ to
+      walk-fits = omega (arith, ended, first (lp .stands) h .fits)
+
+      pub walk-below : {words : List ℕ} → length words ≡ length kinds → Ready tree kinds words (at + 1) e
+      walk-below k = walk-part below-it walk-fits k
+
+      pub walk-after : Formed tree kinds e to
+      walk-after = record { nodes = next (lp .rest); stands = after-it; room = lp .room; few = lp .few }

@@ -1,0 +1,38 @@
+-- What the declared types of the specifiers' loop stand for. Assumes nothing.
+use Prim.Native.Nat.{ℕ, _≤_, _<_}
+use mathlib.Core.Path.{_≡_}
+use mathlib.Core.Bool.{Bool}
+use mathlib.Core.List.{List}
+use lib.ListN.{length}
+use Rattle.structure.specs.Moves.{Move, stop, on, on-if}
+use Rattle.structure.specs.Specifiers.{Specifiers, specifiers, times, once-more}
+use Rattle.structure.specs.declared.specifiers.SpecifierFlags.{SpecifierFlags}
+use Rattle.structure.specs.declared.specifiers.SpecifierMove.{SpecifierMove}
+use Rattle.structure.specs.declared.specifiers.SpecifierMove.the-variants as M
+
+abbrev pub specifiers-of : (seen : List ℕ) → SpecifierFlags → Specifiers
+specifiers-of seen f = specifiers seen (f .named) (f .elaborated) (f .«bit_int») (f .scoped)
+
+-- A move holds no counts: it says which word is counted, `seen` the counts before it.
+abbrev pub specifier-move-of : (seen : List ℕ) → SpecifierMove → Move Specifiers
+specifier-move-of seen (M.Stop r) = stop r
+specifier-move-of seen (M.On f) = on (specifiers-of seen f)
+specifier-move-of seen (M.Count w f) = on (specifiers-of (once-more w seen) f)
+
+-- A word that is counted has a count.
+abbrev pub Known : SpecifierMove → Type 0
+Known (M.Stop r) = Unit {0}
+Known (M.On f) = Unit {0}
+Known (M.Count w f) = w < 29
+
+-- A move of the specifiers, and what lets the code count.
+pub record SpecifierMoves (seen : List ℕ) (r : SpecifierMove) (m : Move Specifiers) : Type 0 where
+  pub is : specifier-move-of seen r ≡ m
+  pub known : Known r
+
+-- The moves of `on_if` and `count_if`, whatever was counted before.
+abbrev pub Goes : SpecifierMove → (ok : Bool) → SpecifierFlags → Type 0
+Goes r ok f = (seen : List ℕ) → SpecifierMoves seen r (on-if ok (specifiers-of seen f))
+
+abbrev pub Counts : SpecifierMove → (ok : Bool) (w : ℕ) → SpecifierFlags → Type 0
+Counts r ok w f = (seen : List ℕ) → SpecifierMoves seen r (on-if ok (specifiers-of (once-more w seen) f))

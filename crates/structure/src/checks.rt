@@ -1,0 +1,528 @@
+// The checks that call one another: the loops over the nodes of a level, and what is asked of the nodes below a node. Each loop counts one step.
+
+use crate::expressions::expression_end;
+use crate::expressions::expression_node;
+use crate::moves::DeclaratorLoop;
+use crate::moves::DeclaratorMove;
+use crate::moves::ExpressionLoop;
+use crate::moves::ExpressionMove;
+use crate::moves::Inner;
+use crate::moves::TypeLoop;
+use crate::moves::TypeMove;
+use crate::moves::Verdict;
+use crate::moves::plain;
+use crate::nodes::is_ellipsis;
+use crate::nodes::is_single_token;
+use crate::nodes::looks_like_abstract_declarator;
+use crate::nodes::node_end;
+use crate::nodes::parts_are_full;
+use crate::nodes::shape_at;
+use crate::parts::part_end;
+use crate::shapes::NO_NODE;
+use crate::specifiers::exact_word;
+use crate::specifiers::validate_c_decl_specifiers;
+use crate::tables::abstract_declarator_node;
+use crate::tables::c_family_node;
+use crate::words::NO_WORD;
+use rows::kinds::COLON;
+use rows::kinds::EQUAL;
+use rows::kinds::IDENTIFIER;
+use rows::kinds::STAR;
+ghost use mathlib.Core.Path.{_≡_};
+ghost use Rattle.structure.specs.Moves.{type-or-expression, arguments};
+ghost use Rattle.structure.specs.Structure.{a-type, a-declarator, an-expression, checked, validate-cpp-template-argument, validate-parameter};
+ghost use Rattle.structure.specs.Structure.{validate-parameter-type-list, validate-fortran-selector-value, validate-fortran-selector};
+ghost use Rattle.structure.specs.Structure.{validate-fortran-selector-list};
+ghost use Rattle.structure.specs.Represented.{test-of};
+ghost use Rattle.structure.specs.Stands.{Ready};
+ghost use Rattle.structure.specs.Says.{Says, Answers, Passes};
+
+pub fn validate_c_family_type(
+    language: u8,
+    tree: &[u32],
+    kinds: &[u8],
+    words: &[u8],
+    from: usize,
+    to: usize,
+    allowed: usize,
+) -> Verdict
+    requires { ⌜ Ready (now tree) (now kinds) (now words) from to ⌝ }
+    ensures { λ r. ⌜ Says (now (tree .entry)) (now (kinds .entry)) from to allowed (checked language (now (kinds .entry)) (now (words .entry)) a-type) r ⌝ }
+{
+    if allowed == 0 {
+        return Verdict::Spent;
+    }
+    let mut left = allowed - 1;
+    if !validate_c_decl_specifiers(language, tree, kinds, words, from, to) {
+        return Verdict::Fails(left);
+    }
+    let mut before = NO_NODE;
+    let mut word_before = NO_WORD;
+    let mut st = TypeLoop {
+        word: false,
+        started: false,
+        reference: false,
+    };
+    let mut at = from;
+    while at < to {
+        let shape = shape_at(tree, kinds, at, to);
+        let word = exact_word(tree, kinds, words, at, to);
+        let end = node_end(tree, kinds, at, to);
+        let right = shape_at(tree, kinds, end, to);
+        let act = c_family_node(language, before, word_before, shape, word, right, st);
+        match act {
+            TypeMove::Stop(holds) => return plain(holds, left),
+            TypeMove::On(next) => {
+                st = next;
+            }
+            TypeMove::Inside(inner, next) => {
+                let said = test(language, tree, kinds, words, inner, at + 1, end, left);
+                match said {
+                    Verdict::Holds(steps) => {
+                        left = steps;
+                        st = next;
+                    }
+                    Verdict::Fails(steps) => return Verdict::Fails(steps),
+                    Verdict::Spent => return Verdict::Spent,
+                }
+            }
+        }
+        before = shape;
+        word_before = word;
+        at = end;
+    }
+    plain(st.word, left)
+}
+
+pub fn validate_abstract_declarator(
+    language: u8,
+    tree: &[u32],
+    kinds: &[u8],
+    words: &[u8],
+    from: usize,
+    to: usize,
+    allowed: usize,
+) -> Verdict
+    requires { ⌜ Ready (now tree) (now kinds) (now words) from to ⌝ }
+    ensures { λ r. ⌜ Says (now (tree .entry)) (now (kinds .entry)) from to allowed (checked language (now (kinds .entry)) (now (words .entry)) a-declarator) r ⌝ }
+{
+    if allowed == 0 {
+        return Verdict::Spent;
+    }
+    let mut left = allowed - 1;
+    let mut before = NO_NODE;
+    let mut st = DeclaratorLoop {
+        operator: false,
+        reference: false,
+    };
+    let mut at = from;
+    while at < to {
+        let shape = shape_at(tree, kinds, at, to);
+        let word = exact_word(tree, kinds, words, at, to);
+        let end = node_end(tree, kinds, at, to);
+        let right = shape_at(tree, kinds, end, to);
+        let act = abstract_declarator_node(language, before, shape, word, right, st);
+        match act {
+            DeclaratorMove::Stop(holds) => return plain(holds, left),
+            DeclaratorMove::On(next) => {
+                st = next;
+            }
+            DeclaratorMove::Inside(inner, next) => {
+                match inner {
+                    Inner::Declarator => {
+                        let said = validate_abstract_declarator(
+                            language,
+                            tree,
+                            kinds,
+                            words,
+                            at + 1,
+                            end,
+                            left,
+                        );
+                        match said {
+                            Verdict::Holds(steps) => {
+                                left = steps;
+                                st = next;
+                            }
+                            Verdict::Fails(steps) => return Verdict::Fails(steps),
+                            Verdict::Spent => return Verdict::Spent,
+                        }
+                    }
+                    _ => {
+                        let said = test(language, tree, kinds, words, inner, at + 1, end, left);
+                        match said {
+                            Verdict::Holds(steps) => {
+                                left = steps;
+                                st = next;
+                            }
+                            Verdict::Fails(steps) => return Verdict::Fails(steps),
+                            Verdict::Spent => return Verdict::Spent,
+                        }
+                    }
+                }
+            }
+        }
+        before = shape;
+        at = end;
+    }
+    plain(st.operator, left)
+}
+
+pub fn validate_expression(
+    language: u8,
+    tree: &[u32],
+    kinds: &[u8],
+    words: &[u8],
+    from: usize,
+    to: usize,
+    allowed: usize,
+) -> Verdict
+    requires { ⌜ Ready (now tree) (now kinds) (now words) from to ⌝ }
+    ensures { λ r. ⌜ Says (now (tree .entry)) (now (kinds .entry)) from to allowed (checked language (now (kinds .entry)) (now (words .entry)) an-expression) r ⌝ }
+{
+    if allowed == 0 {
+        return Verdict::Spent;
+    }
+    let mut left = allowed - 1;
+    let mut st = ExpressionLoop {
+        operand: true,
+        access: false,
+        depth: 0,
+    };
+    let mut at = from;
+    while at < to {
+        let shape = shape_at(tree, kinds, at, to);
+        let end = node_end(tree, kinds, at, to);
+        let act = expression_node(language, shape, st);
+        match act {
+            ExpressionMove::Stop(holds) => return plain(holds, left),
+            ExpressionMove::On(next) => {
+                st = next;
+            }
+            ExpressionMove::Inside(inner, next) => {
+                let said = test(language, tree, kinds, words, inner, at + 1, end, left);
+                match said {
+                    Verdict::Holds(steps) => {
+                        left = steps;
+                        st = next;
+                    }
+                    Verdict::Fails(steps) => return Verdict::Fails(steps),
+                    Verdict::Spent => return Verdict::Spent,
+                }
+            }
+        }
+        at = end;
+    }
+    plain(expression_end(st), left)
+}
+
+// What is asked of the nodes below a node.
+pub fn test(
+    language: u8,
+    tree: &[u32],
+    kinds: &[u8],
+    words: &[u8],
+    inner: Inner,
+    from: usize,
+    to: usize,
+    allowed: usize,
+) -> Verdict
+    requires { ⌜ Ready (now tree) (now kinds) (now words) from to ⌝ }
+    ensures { λ r. ⌜ Passes language (now (tree .entry)) (now (kinds .entry)) (now (words .entry)) from to allowed (test-of inner) r ⌝ }
+{
+    match inner {
+        Inner::TypeName => return validate_c_family_type(
+            language,
+            tree,
+            kinds,
+            words,
+            from,
+            to,
+            allowed,
+        ),
+        Inner::Expression => return validate_expression(
+            language,
+            tree,
+            kinds,
+            words,
+            from,
+            to,
+            allowed,
+        ),
+        Inner::SomeExpression => {
+            if from == to {
+                return Verdict::Fails(allowed);
+            }
+            return validate_expression(language, tree, kinds, words, from, to, allowed);
+        }
+        Inner::OptionalExpression => {
+            if from == to {
+                return Verdict::Holds(allowed);
+            }
+            return validate_expression(language, tree, kinds, words, from, to, allowed);
+        }
+        Inner::TypeOrExpression => return type_or_expression(
+            language,
+            tree,
+            kinds,
+            words,
+            from,
+            to,
+            allowed,
+        ),
+        Inner::ArrayBound => {
+            if from == to {
+                return Verdict::Holds(allowed);
+            }
+            if is_single_token(tree, kinds, STAR, from, to) {
+                return Verdict::Holds(allowed);
+            }
+            return validate_expression(language, tree, kinds, words, from, to, allowed);
+        }
+        Inner::Declarator => return validate_abstract_declarator(
+            language,
+            tree,
+            kinds,
+            words,
+            from,
+            to,
+            allowed,
+        ),
+        Inner::Arguments => return arguments(language, tree, kinds, words, from, to, allowed),
+        Inner::Selectors => return validate_fortran_selector_list(
+            language,
+            tree,
+            kinds,
+            words,
+            from,
+            to,
+            allowed,
+        ),
+        Inner::DeclaratorOrParameters(word) => {
+            if looks_like_abstract_declarator(tree, kinds, from, to) {
+                return validate_abstract_declarator(
+                    language,
+                    tree,
+                    kinds,
+                    words,
+                    from,
+                    to,
+                    allowed,
+                );
+            }
+            if !word {
+                return Verdict::Fails(allowed);
+            }
+            return validate_parameter_type_list(language, tree, kinds, words, from, to, allowed);
+        }
+    }
+}
+
+// `||`: the steps of the first try stay counted.
+pub fn type_or_expression(
+    language: u8,
+    tree: &[u32],
+    kinds: &[u8],
+    words: &[u8],
+    from: usize,
+    to: usize,
+    allowed: usize,
+) -> Verdict
+    requires { ⌜ Ready (now tree) (now kinds) (now words) from to ⌝ }
+    ensures { λ r. ⌜ Passes language (now (tree .entry)) (now (kinds .entry)) (now (words .entry)) from to allowed type-or-expression r ⌝ }
+{
+    let said = validate_c_family_type(language, tree, kinds, words, from, to, allowed);
+    match said {
+        Verdict::Holds(steps) => return Verdict::Holds(steps),
+        Verdict::Fails(steps) => {
+            return validate_expression(language, tree, kinds, words, from, to, steps);
+        }
+        Verdict::Spent => return Verdict::Spent,
+    }
+}
+
+fn validate_cpp_template_argument(
+    language: u8,
+    tree: &[u32],
+    kinds: &[u8],
+    words: &[u8],
+    from: usize,
+    to: usize,
+    allowed: usize,
+) -> Verdict
+    requires { ⌜ Ready (now tree) (now kinds) (now words) from to ⌝ }
+    ensures { λ r. ⌜ Answers validate-cpp-template-argument language (now (tree .entry)) (now (kinds .entry)) (now (words .entry)) from to allowed r ⌝ }
+{
+    if from == to {
+        return Verdict::Fails(allowed);
+    }
+    type_or_expression(language, tree, kinds, words, from, to, allowed)
+}
+
+// The arguments below an L.
+pub fn arguments(
+    language: u8,
+    tree: &[u32],
+    kinds: &[u8],
+    words: &[u8],
+    from: usize,
+    to: usize,
+    allowed: usize,
+) -> Verdict
+    requires { ⌜ Ready (now tree) (now kinds) (now words) from to ⌝ }
+    ensures { λ r. ⌜ Passes language (now (tree .entry)) (now (kinds .entry)) (now (words .entry)) from to allowed arguments r ⌝ }
+{
+    let mut left = allowed;
+    let mut at = from;
+    while at < to {
+        let end = node_end(tree, kinds, at, to);
+        let said = validate_cpp_template_argument(language, tree, kinds, words, at + 1, end, left);
+        match said {
+            Verdict::Holds(steps) => {
+                left = steps;
+            }
+            Verdict::Fails(steps) => return Verdict::Fails(steps),
+            Verdict::Spent => return Verdict::Spent,
+        }
+        at = end;
+    }
+    Verdict::Holds(left)
+}
+
+fn parameter(
+    language: u8,
+    tree: &[u32],
+    kinds: &[u8],
+    words: &[u8],
+    from: usize,
+    to: usize,
+    allowed: usize,
+) -> Verdict
+    requires { ⌜ Ready (now tree) (now kinds) (now words) from to ⌝ }
+    ensures { λ r. ⌜ Answers validate-parameter language (now (tree .entry)) (now (kinds .entry)) (now (words .entry)) from to allowed r ⌝ }
+{
+    if is_ellipsis(tree, kinds, from, to) {
+        return Verdict::Holds(allowed);
+    }
+    validate_c_family_type(language, tree, kinds, words, from, to, allowed)
+}
+
+fn validate_parameter_type_list(
+    language: u8,
+    tree: &[u32],
+    kinds: &[u8],
+    words: &[u8],
+    from: usize,
+    to: usize,
+    allowed: usize,
+) -> Verdict
+    requires { ⌜ Ready (now tree) (now kinds) (now words) from to ⌝ }
+    ensures { λ r. ⌜ Answers validate-parameter-type-list language (now (tree .entry)) (now (kinds .entry)) (now (words .entry)) from to allowed r ⌝ }
+{
+    if from == to {
+        return Verdict::Holds(allowed);
+    }
+    if !parts_are_full(tree, kinds, from, to) {
+        return Verdict::Fails(allowed);
+    }
+    let mut left = allowed;
+    let mut at = from;
+    loop {
+        let end = part_end(tree, kinds, at, to);
+        let said = parameter(language, tree, kinds, words, at, end, left);
+        match said {
+            Verdict::Holds(steps) => {
+                left = steps;
+            }
+            Verdict::Fails(steps) => return Verdict::Fails(steps),
+            Verdict::Spent => return Verdict::Spent,
+        }
+        if end == to {
+            return Verdict::Holds(left);
+        }
+        at = node_end(tree, kinds, end, to);
+    }
+}
+
+fn validate_fortran_selector_value(
+    language: u8,
+    tree: &[u32],
+    kinds: &[u8],
+    words: &[u8],
+    from: usize,
+    to: usize,
+    allowed: usize,
+) -> Verdict
+    requires { ⌜ Ready (now tree) (now kinds) (now words) from to ⌝ }
+    ensures { λ r. ⌜ Answers validate-fortran-selector-value language (now (tree .entry)) (now (kinds .entry)) (now (words .entry)) from to allowed r ⌝ }
+{
+    let star = is_single_token(tree, kinds, STAR, from, to);
+    if star | is_single_token(tree, kinds, COLON, from, to) {
+        return Verdict::Holds(allowed);
+    }
+    validate_expression(language, tree, kinds, words, from, to, allowed)
+}
+
+// One selector, with or without a keyword and `=`.
+fn selector(
+    language: u8,
+    tree: &[u32],
+    kinds: &[u8],
+    words: &[u8],
+    from: usize,
+    to: usize,
+    allowed: usize,
+) -> Verdict
+    requires { ⌜ Ready (now tree) (now kinds) (now words) from to ⌝ }
+    ensures { λ r. ⌜ Answers validate-fortran-selector language (now (tree .entry)) (now (kinds .entry)) (now (words .entry)) from to allowed r ⌝ }
+{
+    if shape_at(tree, kinds, from, to) != IDENTIFIER {
+        return validate_fortran_selector_value(language, tree, kinds, words, from, to, allowed);
+    }
+    let second = node_end(tree, kinds, from, to);
+    if shape_at(tree, kinds, second, to) != EQUAL {
+        return validate_fortran_selector_value(language, tree, kinds, words, from, to, allowed);
+    }
+    let value = node_end(tree, kinds, second, to);
+    if value == to {
+        return Verdict::Fails(allowed);
+    }
+    validate_fortran_selector_value(language, tree, kinds, words, value, to, allowed)
+}
+
+pub fn validate_fortran_selector_list(
+    language: u8,
+    tree: &[u32],
+    kinds: &[u8],
+    words: &[u8],
+    from: usize,
+    to: usize,
+    allowed: usize,
+) -> Verdict
+    requires { ⌜ Ready (now tree) (now kinds) (now words) from to ⌝ }
+    ensures { λ r. ⌜ Answers validate-fortran-selector-list language (now (tree .entry)) (now (kinds .entry)) (now (words .entry)) from to allowed r ⌝ }
+{
+    if from == to {
+        return Verdict::Fails(allowed);
+    }
+    if !parts_are_full(tree, kinds, from, to) {
+        return Verdict::Fails(allowed);
+    }
+    let mut left = allowed;
+    let mut at = from;
+    loop {
+        let end = part_end(tree, kinds, at, to);
+        let said = selector(language, tree, kinds, words, at, end, left);
+        match said {
+            Verdict::Holds(steps) => {
+                left = steps;
+            }
+            Verdict::Fails(steps) => return Verdict::Fails(steps),
+            Verdict::Spent => return Verdict::Spent,
+        }
+        if end == to {
+            return Verdict::Holds(left);
+        }
+        at = node_end(tree, kinds, end, to);
+    }
+}

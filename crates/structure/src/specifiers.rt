@@ -1,0 +1,317 @@
+// The declaration specifiers at the head of a C or C++ type name: `validate_c_decl_specifiers`, and what its loop does at a node, one arm of the
+// original's `match` after another. `before`: word of the node before the node; `right`, `second`: shape and word of the node after it.
+
+use crate::combination::builtin_words;
+use crate::combination::has;
+use crate::combination::validate_c_bit_int_sign;
+use crate::combination::validate_c_builtin_combination;
+use crate::nodes::node_end;
+use crate::nodes::node_identifier;
+use crate::nodes::shape_at;
+use crate::sets::is_c_builtin_type_word;
+use crate::sets::is_c_family_declarator_qualifier;
+use crate::sets::is_cpp_elaborated_word;
+use crate::sets::is_elaborated_word;
+use crate::sets::is_keyword;
+use crate::sets::is_parenthesis_word;
+use crate::sets::is_sign;
+use crate::shapes::PARENTHESIZED;
+use crate::shapes::TEMPLATE_ARGUMENTS;
+use crate::words::BIT_INT;
+use crate::words::NO_WORD;
+use crate::words::OTHER_CASE;
+use rows::kinds::IDENTIFIER;
+use rows::kinds::SCOPE;
+use rows::languages::C;
+use rows::languages::CPP;
+ghost use mathlib.Core.Path.{_≡_};
+ghost use Prim.Native.Nat.{_<_};
+ghost use lib.Dec.{eqb};
+ghost use Rattle.rows.specs.Notation.{if_then_else_};
+ghost use Rattle.rows.specs.Words.{exactly, «_BitInt»};
+ghost use Rattle.structure.specs.Shapes.{exact-word};
+ghost use Rattle.structure.specs.Specifiers.{no-builtin-word, validate-c-bit-int-sign, specifiers-end, parenthesis-word, qualifier-word, elaborated-word, builtin-word, name-word, specifier-scope, specifier-list, specifier-node, validate-c-decl-specifiers};
+ghost use Rattle.structure.specs.Stands.{Ready, Of};
+ghost use Rattle.structure.specs.RepresentedSpecifiers.{specifiers-of, SpecifierMoves, Goes, Counts};
+
+// What was seen besides the words that are counted.
+pub struct SpecifierFlags {
+    pub named: bool,
+    pub elaborated: bool,
+    pub bit_int: bool,
+    pub scoped: bool,
+}
+
+// The variables of `validate_c_decl_specifiers`; `seen`: how often each builtin type word and each qualifier was seen, by word number.
+pub struct Specifiers {
+    pub seen: [usize; 29],
+    pub flags: SpecifierFlags,
+}
+
+// `Count`: go on, with the word seen once more. (No move holds `seen`.)
+pub enum SpecifierMove {
+    Stop(bool),
+    On(SpecifierFlags),
+    Count(u8, SpecifierFlags),
+}
+
+// Which known word it is exactly, by its number.
+fn exactly(number: u8) -> u8
+    ensures { λ r. ⌜ r ≡ exactly number ⌝ }
+{
+    if number < OTHER_CASE {
+        return number;
+    }
+    NO_WORD
+}
+
+// Which known word the node at a place is exactly.
+pub fn exact_word(tree: &[u32], kinds: &[u8], words: &[u8], at: usize, to: usize) -> u8
+    requires { ⌜ Ready (now tree) (now kinds) (now words) at to ⌝ }
+    ensures { λ r. ⌜ Of (now (tree .entry)) (now (kinds .entry)) at to (λ x. r ≡ exact-word (now (kinds .entry)) (now (words .entry)) x) ⌝ }
+{
+    exactly(node_identifier(tree, kinds, words, at, to))
+}
+
+// `builtin_words.is_empty()`
+fn no_builtin_word(seen: &[usize; 29]) -> bool
+    ensures { λ r. ⌜ r ≡ no-builtin-word (now (seen .entry)) ⌝ }
+{
+    builtin_words(seen) == 0
+}
+
+// Whether the builtin type words may stand before such a word and its parentheses.
+fn builtin_words_are_valid(word: u8, seen: &[usize; 29]) -> bool
+    ensures { λ r. ⌜ r ≡ (if eqb word «_BitInt» then validate-c-bit-int-sign (now (seen .entry)) else no-builtin-word (now (seen .entry))) ⌝ }
+{
+    if word == BIT_INT {
+        return validate_c_bit_int_sign(seen);
+    }
+    no_builtin_word(seen)
+}
+
+fn on_if(ok: bool, flags: SpecifierFlags) -> SpecifierMove
+    ensures { λ r. ⌜ Goes r ok flags ⌝ }
+{
+    if ok {
+        return SpecifierMove::On(flags);
+    }
+    SpecifierMove::Stop(false)
+}
+
+fn count_if(ok: bool, word: u8, flags: SpecifierFlags) -> SpecifierMove
+    requires { ⌜ word < 29 ⌝ }
+    ensures { λ r. ⌜ Counts r ok word flags ⌝ }
+{
+    if ok {
+        return SpecifierMove::Count(word, flags);
+    }
+    SpecifierMove::Stop(false)
+}
+
+fn specifiers_end(st: Specifiers) -> bool
+    ensures { λ r. ⌜ r ≡ specifiers-end (specifiers-of (st .seen) (st .flags)) ⌝ }
+{
+    let flags = st.flags;
+    if flags.scoped {
+        return false;
+    }
+    if flags.bit_int {
+        return validate_c_bit_int_sign(&st.seen);
+    }
+    if !no_builtin_word(&st.seen) {
+        return validate_c_builtin_combination(&st.seen);
+    }
+    flags.named | flags.elaborated
+}
+
+// A word that makes a specifier with the parentheses after it.
+fn parenthesis_word(word: u8, st: Specifiers) -> SpecifierMove
+    ensures { λ r. ⌜ SpecifierMoves (st .seen) r (parenthesis-word word (specifiers-of (st .seen) (st .flags))) ⌝ }
+{
+    let flags = st.flags;
+    let valid = builtin_words_are_valid(word, &st.seen);
+    on_if(
+        !flags.named & !flags.elaborated & valid,
+        SpecifierFlags {
+            named: true,
+            elaborated: flags.elaborated,
+            bit_int: word == BIT_INT,
+            scoped: flags.scoped,
+        },
+    )
+}
+
+fn qualifier_word(word: u8, st: Specifiers) -> SpecifierMove
+    requires { ⌜ word < 29 ⌝ }
+    ensures { λ r. ⌜ SpecifierMoves (st .seen) r (qualifier-word word (specifiers-of (st .seen) (st .flags))) ⌝ }
+{
+    let flags = st.flags;
+    let new = !has(&st.seen, word);
+    count_if(new, word, flags)
+}
+
+// The first word of an elaborated name.
+fn elaborated_word(language: u8, word: u8, right: u8, st: Specifiers) -> SpecifierMove
+    ensures { λ r. ⌜ SpecifierMoves (st .seen) r (elaborated-word language word right (specifiers-of (st .seen) (st .flags))) ⌝ }
+{
+    let flags = st.flags;
+    let foreign = (language == C) & is_cpp_elaborated_word(word);
+    let none = no_builtin_word(&st.seen);
+    on_if(
+        !foreign & !flags.named & none & !flags.elaborated & (right == IDENTIFIER),
+        SpecifierFlags {
+            named: flags.named,
+            elaborated: true,
+            bit_int: flags.bit_int,
+            scoped: flags.scoped,
+        },
+    )
+}
+
+fn builtin_word(word: u8, st: Specifiers) -> SpecifierMove
+    requires { ⌜ word < 29 ⌝ }
+    ensures { λ r. ⌜ SpecifierMoves (st .seen) r (builtin-word word (specifiers-of (st .seen) (st .flags))) ⌝ }
+{
+    let flags = st.flags;
+    let sign = flags.bit_int & is_sign(word);
+    count_if(
+        !flags.elaborated & (!flags.named | sign),
+        word,
+        SpecifierFlags {
+            named: flags.named,
+            elaborated: flags.elaborated,
+            bit_int: flags.bit_int,
+            scoped: false,
+        },
+    )
+}
+
+// Any other word: a name.
+fn name_word(st: Specifiers) -> SpecifierMove
+    ensures { λ r. ⌜ SpecifierMoves (st .seen) r (name-word (specifiers-of (st .seen) (st .flags))) ⌝ }
+{
+    let flags = st.flags;
+    let none = no_builtin_word(&st.seen);
+    on_if(
+        none & (!flags.named | flags.scoped | flags.elaborated),
+        SpecifierFlags {
+            named: true,
+            elaborated: flags.elaborated,
+            bit_int: flags.bit_int,
+            scoped: false,
+        },
+    )
+}
+
+// `::` after a name, or leading: then it must introduce a name and no keyword.
+fn specifier_scope(language: u8, right: u8, second: u8, st: Specifiers) -> SpecifierMove
+    ensures { λ r. ⌜ SpecifierMoves (st .seen) r (specifier-scope language right second (specifiers-of (st .seen) (st .flags))) ⌝ }
+{
+    let flags = st.flags;
+    let none = no_builtin_word(&st.seen);
+    let leading = !flags.elaborated & none & (right == IDENTIFIER) & !is_keyword(second);
+    on_if(
+        (language == CPP) & !flags.scoped & (flags.named | leading),
+        SpecifierFlags {
+            named: flags.named,
+            elaborated: flags.elaborated,
+            bit_int: flags.bit_int,
+            scoped: true,
+        },
+    )
+}
+
+// A template argument list.
+fn specifier_list(language: u8, st: Specifiers) -> SpecifierMove
+    ensures { λ r. ⌜ SpecifierMoves (st .seen) r (specifier-list language (specifiers-of (st .seen) (st .flags))) ⌝ }
+{
+    let flags = st.flags;
+    on_if((language == CPP) & flags.named & !flags.scoped, flags)
+}
+
+// The last line is the original's `break`.
+fn specifier_node(
+    language: u8,
+    before: u8,
+    shape: u8,
+    word: u8,
+    right: u8,
+    second: u8,
+    st: Specifiers,
+) -> SpecifierMove
+    ensures { λ r. ⌜ SpecifierMoves (st .seen) r (specifier-node language before shape word right second (specifiers-of (st .seen) (st .flags))) ⌝ }
+{
+    let identifier = shape == IDENTIFIER;
+    if (shape == PARENTHESIZED) & is_parenthesis_word(before) {
+        let flags = st.flags;
+        return SpecifierMove::On(flags);
+    }
+    if identifier & is_parenthesis_word(word) & (right == PARENTHESIZED) {
+        return parenthesis_word(word, st);
+    }
+    if identifier & is_c_family_declarator_qualifier(word) {
+        return qualifier_word(word, st);
+    }
+    if identifier & is_elaborated_word(word) {
+        return elaborated_word(language, word, right, st);
+    }
+    if identifier & is_c_builtin_type_word(word) {
+        return builtin_word(word, st);
+    }
+    if identifier {
+        return name_word(st);
+    }
+    if shape == SCOPE {
+        return specifier_scope(language, right, second, st);
+    }
+    if shape == TEMPLATE_ARGUMENTS {
+        return specifier_list(language, st);
+    }
+    SpecifierMove::Stop(specifiers_end(st))
+}
+
+pub fn validate_c_decl_specifiers(
+    language: u8,
+    tree: &[u32],
+    kinds: &[u8],
+    words: &[u8],
+    from: usize,
+    to: usize,
+) -> bool
+    requires { ⌜ Ready (now tree) (now kinds) (now words) from to ⌝ }
+    ensures { λ r. ⌜ Of (now (tree .entry)) (now (kinds .entry)) from to (λ x. r ≡ validate-c-decl-specifiers language (now (kinds .entry)) (now (words .entry)) x) ⌝ }
+{
+    let seen = [0; 29];
+    let flags = SpecifierFlags {
+        named: false,
+        elaborated: false,
+        bit_int: false,
+        scoped: false,
+    };
+    let mut st = Specifiers { seen, flags };
+    let mut before = NO_WORD;
+    let mut at = from;
+    while at < to {
+        let word = exact_word(tree, kinds, words, at, to);
+        let shape = shape_at(tree, kinds, at, to);
+        let next = node_end(tree, kinds, at, to);
+        let second = exact_word(tree, kinds, words, next, to);
+        let right = shape_at(tree, kinds, next, to);
+        let step = specifier_node(language, before, shape, word, right, second, st);
+        match step {
+            SpecifierMove::Stop(answer) => return answer,
+            SpecifierMove::On(flags) => {
+                st.flags = flags;
+            }
+            SpecifierMove::Count(counted, flags) => {
+                let i = counted as usize;
+                st.seen[i] += 1;
+                st.flags = flags;
+            }
+        }
+        before = word;
+        at = next;
+    }
+    specifiers_end(st)
+}

@@ -1,0 +1,29 @@
+// The structure check of a tree.
+
+use crate::checks::validate_c_family_type;
+use crate::fortran::validate_fortran_type;
+use crate::moves::Verdict;
+use rows::languages::FORTRAN;
+ghost use mathlib.Core.Path.{_≡_};
+ghost use Rattle.structure.specs.Structure.{validate-structured-syntax};
+ghost use Rattle.structure.specs.Stands.{Ready};
+ghost use Rattle.structure.specs.Says.{Says};
+
+// `allowed`: the steps that are left to it.
+pub fn validate_structured_syntax(
+    language: u8,
+    tree: &[u32],
+    kinds: &[u8],
+    words: &[u8],
+    from: usize,
+    to: usize,
+    allowed: usize,
+) -> Verdict
+    requires { ⌜ Ready (now tree) (now kinds) (now words) from to ⌝ }
+    ensures { λ r. ⌜ Says (now (tree .entry)) (now (kinds .entry)) from to allowed (validate-structured-syntax language (now (kinds .entry)) (now (words .entry))) r ⌝ }
+{
+    if language == FORTRAN {
+        return validate_fortran_type(language, tree, kinds, words, from, to, allowed);
+    }
+    validate_c_family_type(language, tree, kinds, words, from, to, allowed)
+}
