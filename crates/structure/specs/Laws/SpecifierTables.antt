@@ -1,12 +1,12 @@
 -- The arms of the specifiers' table of moves, and the words that are counted. Assumes nothing.
-use Prim.Native.Nat.{ℕ, suc, _+_, _≤_, _<_}
+use Prim.Native.Nat.{ℕ, _<_}
 use mathlib.Core.Path.{_≡_, refl, sym, _∙_}
-use mathlib.Core.Bool.{Bool, true, false, true≢false, _&&_, _||_, not}
+use mathlib.Core.Bool.{true, false, true≢false, _&&_}
 use mathlib.Core.List.{List, [], _∷_}
 use native.Mathlib.Omega.{arith}
 use lib.Dec.{eqb, ltb}
 use borrow.Author.Tests.{ltb-true, eqb-true}
-use Rattle.rows.specs.Notation.{if_then_else_, _is-one-of_}
+use Rattle.rows.specs.Notation.{_is-one-of_}
 use Rattle.rows.specs.Kinds.{Identifier, Scope}
 use Rattle.structure.specs.Shapes.{Parenthesized, TemplateArguments}
 use Rattle.structure.specs.Sets.{parenthesis-words, elaborated-words, is-c-builtin-type-word, is-c-family-declarator-qualifier, builtin-type-words, declarator-qualifiers}
