@@ -1,11 +1,10 @@
 -- What the declared types of the specifiers' loop stand for. Assumes nothing.
-use Prim.Native.Nat.{ℕ, _≤_, _<_}
+use Prim.Native.Nat.{ℕ, _<_}
 use mathlib.Core.Path.{_≡_}
 use mathlib.Core.Bool.{Bool}
 use mathlib.Core.List.{List}
-use lib.ListN.{length}
 use Rattle.structure.specs.Moves.{Move, stop, on, on-if}
-use Rattle.structure.specs.Specifiers.{Specifiers, specifiers, times, once-more}
+use Rattle.structure.specs.Specifiers.{Specifiers, specifiers, once-more}
 use Rattle.structure.specs.declared.specifiers.SpecifierFlags.{SpecifierFlags}
 use Rattle.structure.specs.declared.specifiers.SpecifierMove.{SpecifierMove}
 use Rattle.structure.specs.declared.specifiers.SpecifierMove.the-variants as M
@@ -30,9 +29,6 @@ pub record SpecifierMoves (seen : List ℕ) (r : SpecifierMove) (m : Move Specif
   pub is : specifier-move-of seen r ≡ m
   pub known : Known r
 
--- The moves of `on_if` and `count_if`, whatever was counted before.
-abbrev pub Goes : SpecifierMove → (ok : Bool) → SpecifierFlags → Type 0
-Goes r ok f = (seen : List ℕ) → SpecifierMoves seen r (on-if ok (specifiers-of seen f))
-
-abbrev pub Counts : SpecifierMove → (ok : Bool) (w : ℕ) → SpecifierFlags → Type 0
-Counts r ok w f = (seen : List ℕ) → SpecifierMoves seen r (on-if ok (specifiers-of (once-more w seen) f))
+-- Go on if a condition holds, `after` what the variables then are: a move that serves whatever was counted before.
+abbrev pub Goes : SpecifierMove → (ok : Bool) → (after : (seen : List ℕ) → Specifiers) → Type 0
+Goes r ok after = (seen : List ℕ) → SpecifierMoves seen r (on-if ok (after seen))

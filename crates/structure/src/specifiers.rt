@@ -30,9 +30,9 @@ ghost use lib.Dec.{eqb};
 ghost use Rattle.rows.specs.Notation.{if_then_else_};
 ghost use Rattle.rows.specs.Words.{exactly, «_BitInt»};
 ghost use Rattle.structure.specs.Shapes.{exact-word};
-ghost use Rattle.structure.specs.Specifiers.{no-builtin-word, validate-c-bit-int-sign, specifiers-end, parenthesis-word, qualifier-word, elaborated-word, builtin-word, name-word, specifier-scope, specifier-list, specifier-node, validate-c-decl-specifiers};
+ghost use Rattle.structure.specs.Specifiers.{once-more, no-builtin-word, validate-c-bit-int-sign, specifiers-end, parenthesis-word, qualifier-word, elaborated-word, builtin-word, name-word, specifier-scope, specifier-list, specifier-node, validate-c-decl-specifiers};
 ghost use Rattle.structure.specs.Stands.{Ready, Of};
-ghost use Rattle.structure.specs.RepresentedSpecifiers.{specifiers-of, SpecifierMoves, Goes, Counts};
+ghost use Rattle.structure.specs.RepresentedSpecifiers.{specifiers-of, SpecifierMoves, Goes};
 
 // What was seen besides the words that are counted.
 pub struct SpecifierFlags {
@@ -48,7 +48,17 @@ pub struct Specifiers {
     pub flags: SpecifierFlags,
 }
 
-// `Count`: go on, with the word seen once more. (No move holds `seen`.)
+const NOTHING_SEEN: Specifiers = Specifiers {
+    seen: [0; 29],
+    flags: SpecifierFlags {
+        named: false,
+        elaborated: false,
+        bit_int: false,
+        scoped: false,
+    },
+};
+
+// `Count`: go on, with the word seen once more. A move does not hold the counts, since an enum can hold no array.
 pub enum SpecifierMove {
     Stop(bool),
     On(SpecifierFlags),
@@ -91,7 +101,7 @@ fn builtin_words_are_valid(word: u8, seen: &[usize; 29]) -> bool
 }
 
 fn on_if(ok: bool, flags: SpecifierFlags) -> SpecifierMove
-    ensures { λ r. ⌜ Goes r ok flags ⌝ }
+    ensures { λ r. ⌜ Goes r ok (λ seen. specifiers-of seen flags) ⌝ }
 {
     if ok {
         return SpecifierMove::On(flags);
@@ -101,7 +111,7 @@ fn on_if(ok: bool, flags: SpecifierFlags) -> SpecifierMove
 
 fn count_if(ok: bool, word: u8, flags: SpecifierFlags) -> SpecifierMove
     requires { ⌜ word < 29 ⌝ }
-    ensures { λ r. ⌜ Counts r ok word flags ⌝ }
+    ensures { λ r. ⌜ Goes r ok (λ seen. specifiers-of (once-more word seen) flags) ⌝ }
 {
     if ok {
         return SpecifierMove::Count(word, flags);
@@ -282,14 +292,7 @@ pub fn validate_c_decl_specifiers(
     requires { ⌜ Ready (now tree) (now kinds) (now words) from to ⌝ }
     ensures { λ r. ⌜ Of (now (tree .entry)) (now (kinds .entry)) from to (λ x. r ≡ validate-c-decl-specifiers language (now (kinds .entry)) (now (words .entry)) x) ⌝ }
 {
-    let seen = [0; 29];
-    let flags = SpecifierFlags {
-        named: false,
-        elaborated: false,
-        bit_int: false,
-        scoped: false,
-    };
-    let mut st = Specifiers { seen, flags };
+    let mut st = NOTHING_SEEN;
     let mut before = NO_WORD;
     let mut at = from;
     while at < to {

@@ -10,7 +10,7 @@ use Rattle.reader.specs.Nodes.{Nodes, none, node, count}
 use Rattle.structure.specs.Shapes.{empty, next, shape, exact-word}
 use Rattle.structure.specs.Moves.{Move, stop, on}
 use Rattle.structure.specs.Specifiers.{Specifiers, times, once-more, none-seen, specifiers-end, specifier-node, specifiers-from, validate-c-decl-specifiers}
-use Rattle.structure.specs.Stands.{Stands, Formed, Ready, Of, below}
+use Rattle.structure.specs.Stands.{Stands, Ready, Of, below}
 use Rattle.structure.specs.RepresentedSpecifiers.{specifiers-of, specifier-move-of, Known, SpecifierMoves}
 use Rattle.structure.specs.Laws.Ranges.{first, nothing-left, unique}
 use Rattle.structure.specs.declared.specifiers.SpecifierFlags.{SpecifierFlags}

@@ -1,12 +1,12 @@
 -- The arms of the specifiers' table of moves, and the words that are counted. Assumes nothing.
-use Prim.Native.Nat.{ℕ, suc, _+_, _≤_, _<_}
+use Prim.Native.Nat.{ℕ, _<_}
 use mathlib.Core.Path.{_≡_, refl, sym, _∙_}
-use mathlib.Core.Bool.{Bool, true, false, true≢false, _&&_, _||_, not}
+use mathlib.Core.Bool.{true, false, true≢false, _&&_}
 use mathlib.Core.List.{List, [], _∷_}
 use native.Mathlib.Omega.{arith}
 use lib.Dec.{eqb, ltb}
 use borrow.Author.Tests.{ltb-true, eqb-true}
-use Rattle.rows.specs.Notation.{if_then_else_, _is-one-of_}
+use Rattle.rows.specs.Notation.{_is-one-of_}
 use Rattle.rows.specs.Kinds.{Identifier, Scope}
 use Rattle.structure.specs.Shapes.{Parenthesized, TemplateArguments}
 use Rattle.structure.specs.Sets.{parenthesis-words, elaborated-words, is-c-builtin-type-word, is-c-family-declarator-qualifier, builtin-type-words, declarator-qualifiers}
@@ -41,9 +41,9 @@ qualifier-counted w h = one-counted w declarator-qualifiers refl h
 
 -- ---- the table: where the tests before an arm fail and its own holds, the table gives the arm's move
 
-module _ (lang lw s w right rw₁ : ℕ) (st : Specifiers) where
+module _ (lang lw s w right second : ℕ) (st : Specifiers) where
   abbrev table : Move Specifiers
-  table = specifier-node lang lw s w right rw₁ st
+  table = specifier-node lang lw s w right second st
 
   pub specifier-1 : (eqb s Parenthesized && lw is-one-of parenthesis-words) ≡ true → on st ≡ table
   unfolding specifier-node
@@ -75,7 +75,7 @@ module _ (lang lw s w right rw₁ : ℕ) (st : Specifiers) where
             specifier-6 y = rw (n1, n2, n3, n4, n5, y)
 
             module _ (n6 : eqb s Identifier ≡ false) where
-              pub specifier-7 : eqb s Scope ≡ true → specifier-scope lang right rw₁ st ≡ table
+              pub specifier-7 : eqb s Scope ≡ true → specifier-scope lang right second st ≡ table
               unfolding specifier-node
               specifier-7 y = rw (n1, n2, n3, n4, n5, n6, y)
 

@@ -1,6 +1,4 @@
 -- `builtin_word` meets its contract. Assumes nothing.
-use mathlib.Core.Path.{refl}
-use native.Mathlib.Omega.{arith}
 use borrow.Author.Needs.{needs}
 use Rattle.structure.specs.Specifiers.{builtin-word}
 use Rattle.structure.specs.Laws.SpecifierTables.{moved}

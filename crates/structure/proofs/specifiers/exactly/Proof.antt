@@ -1,6 +1,4 @@
 -- `exactly` meets its contract. Assumes nothing.
-use native.Mathlib.Omega.{arith}
-use borrow.Author.Needs.{needs}
 use borrow.Author.Tests.{lt-ltb, le-ltb}
 use Rattle.rows.specs.Words.{exactly}
 use Rattle.structure.proofs.specifiers.exactly.Statement.{statement}

@@ -1,6 +1,5 @@
 -- `specifier_list` meets its contract. Assumes nothing.
 use mathlib.Core.Path.{refl}
-use native.Mathlib.Omega.{arith}
 use borrow.Author.Needs.{needs}
 use Rattle.structure.specs.Specifiers.{specifier-list}
 use Rattle.structure.specs.Laws.SpecifierTables.{moved}

@@ -1,8 +1,5 @@
 -- `specifiers_end` meets its contract. Assumes nothing.
-use mathlib.Core.Path.{sym, _∙_}
-use native.Mathlib.Omega.{arith}
 use borrow.Author.Needs.{needs}
-use borrow.Author.Tests.{not-true, not-false}
 use Rattle.structure.specs.Specifiers.{specifiers-end}
 use borrow.Author.Needs.{needs}
 use Rattle.structure.proofs.specifiers.specifiers_end.Statement.{statement}
