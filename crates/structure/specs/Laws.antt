@@ -14,5 +14,6 @@ pub mod Parts
 pub mod Checks
 pub mod Inside
 pub mod Asked
+pub mod Trees
 pub mod SpecifierTables
 pub mod SpecifierLoop
