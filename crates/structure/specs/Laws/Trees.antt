@@ -46,16 +46,17 @@ from-records tree kinds none a e rest q h t = let u : a ≡ e = omega arith in e
 from-records tree kinds (node k i b x) a e rest q h t =
     let all : List ℕ = number k ∷ i ∷ suc (count b) ∷ (records b ++ records x) ++ rest in
     let h₁ : drop (3 * suc a) tree ≡ records b ++ (records x ++ rest) =
-        ap (λ (m : ℕ). drop m tree) (three a) ∙ further tree (3 * a) 3 (number k ∷ i ∷ suc (count b) ∷ []) ((records b ++ records x) ++ rest) h refl
-        ∙ append-assoc (records b) (records x) rest in
+    ap (λ (m : ℕ). drop m tree) (three a) ∙ further tree (3 * a) 3 (number k ∷ i ∷ suc (count b) ∷ []) ((records b ++ records x) ++ rest) h refl
+    ∙ append-assoc (records b) (records x) rest in
     let h₂ : drop (3 * suc (a + count b)) tree ≡ records x ++ rest =
-        ap (λ (m : ℕ). drop m tree) (more-of a (count b)) ∙ further tree (3 * suc a) (3 * count b) (records b) (records x ++ rest) h₁ (three-each b) in
+    ap (λ (m : ℕ). drop m tree) (more-of a (count b)) ∙ further tree (3 * suc a) (3 * count b) (records b) (records x ++ rest) h₁ (three-each b) in
     here (number-at tree (3 * a) 0 (3 * a) all h (omega arith)) (number-at tree (3 * a) 1 (3 * a + 1) all h refl) (number-at tree (3 * a) 2 (3 * a + 2) all h refl) (t .0)
     (from-records tree kinds b (suc a) (suc (a + count b)) (records x ++ rest) (omega arith) h₁ (t .1))
     (from-records tree kinds x (suc (a + count b)) e rest (omega arith) h₂ (t .2))
   where
     three : (a : ℕ) → 3 * suc a ≡ 3 * a + 3
     three a = omega arith
+
     more-of : (a m : ℕ) → 3 * suc (a + m) ≡ 3 * suc a + 3 * m
     more-of a m = omega arith
 
