@@ -4,3 +4,4 @@ pub mod SameRecords
 pub mod RowTokens
 pub mod Stable
 pub mod Promised
+pub mod ShutOut
