@@ -1,4 +1,6 @@
+pub mod Parts
 pub mod Total
+pub mod OnlyThen
 pub mod AcceptedRow
 pub mod SameRecords
 pub mod RowTokens

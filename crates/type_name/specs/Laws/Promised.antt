@@ -10,10 +10,10 @@ use lib.Seq.{take-append-seam}
 use lib.Dec.{eqb}
 use Rattle.rows.specs.Languages.{Cpp}
 use Rattle.rows.specs.Format.{format, head-length, most-tokens}
-use Rattle.rows.specs.Records.{RowToken, Row, row, kinds-of}
+use Rattle.rows.specs.Records.{RowToken, kinds-of}
 use Rattle.rows.specs.Laws.RowFacts.{good-row}
 use Rattle.rows.specs.declared.answer.Answer.{Answer}
-use Rattle.rows.specs.declared.answer.Answer.the-variants.{Accepted, Refused}
+use Rattle.rows.specs.declared.answer.Answer.the-variants.{Accepted}
 use Rattle.prescan.specs.Laws.Pairs.{prescan-pairs}
 use Rattle.reader.specs.Nodes.{Nodes, count, records}
 use Rattle.reader.specs.Reading.{MAX-NESTING-DEPTH, got, reading}
@@ -27,25 +27,12 @@ use Rattle.reader.specs.Laws.Groups.{partner, below-each}
 use Rattle.reader.specs.Laws.WrittenOut.{kinds-in, angles-as-often, else-same, same-throughout}
 use Rattle.type_name.specs.Answers.{accepted, refused, Outcome, untouched, read, outcome, answer-in, answer, filled, buffer-in, final-buffer}
 use Rattle.type_name.specs.Promises.{Answered, Buffered, AcceptedAs, TreeDefined, BracketsOf, tokens-in, WrittenAs, Promised}
+use Rattle.type_name.specs.Laws.Parts.{is-refused, nodes-in, steps-in, one-row}
 use Rattle.type_name.specs.Laws.AcceptedRow.{FileAccepted, accepted-file}
 use Rattle.type_name.specs.Laws.RowTokens.{kinds-known, worded, same-kinds}
 use Rattle.type_name.specs.Laws.Stable.{comes-back}
 
 -- ---- the tree is the definition's
-
--- The node count and the steps of an accepted answer.
-abbrev nodes-in : Answer → ℕ
-nodes-in (Accepted nodes m) = nodes
-nodes-in (Refused e m) = 0
-
-abbrev steps-in : Answer → ℕ
-steps-in (Accepted nodes m) = m
-steps-in (Refused e m) = 0
-
--- 1 if refused.
-abbrev is-refused : Answer → ℕ
-is-refused (Accepted nodes m) = 0
-is-refused (Refused e m) = 1
 
 -- An accepted answer comes of an accepted tree.
 from-answer : (o : Outcome) (nodes steps : ℕ) → answer-in o ≡ Accepted nodes steps → (x : Nodes) × (o ≡ read (accepted x steps)) × (count x ≡ nodes)
@@ -57,10 +44,6 @@ from-answer (read (refused e m)) nodes steps q = let clash : _≡_ {A = ℕ} 1 0
 front : (room : ℕ) (x : Nodes) → take (length (records x)) (filled room (records x)) ≡ records x
 unfolding filled
 front room x = take-append-seam (records x) _
-
--- A file has one row.
-one-row : (r : Row) (ts ts′ : List RowToken) → r ≡ row ts → r ≡ row ts′ → ts ≡ ts′
-one-row r ts ts′ p q = cc
 
 module _ (file before : List ℕ) (a : Answer) (after : List ℕ) (answered : Answered file before a) (buffered : Buffered file before after) where
   tree-defined : TreeDefined file before a after

@@ -1,8 +1,8 @@
 -- What the contract shuts out: document 01, "What the contracts say of rows", c. Whatever reader has the definition's answer and the definition's
 -- buffer for every file and buffer is none of those named there. Each is shown by a file of a short row, computed.
 -- Assumes nothing.
-use Prim.Native.Nat.{ℕ, zero, suc, _+_}
-use mathlib.Core.Path.{_≡_, refl, sym, ap, _∙_}
+use Prim.Native.Nat.{ℕ, zero, suc, _+_, _≤_, _<_}
+use mathlib.Core.Path.{_≡_, refl, sym, ap, subst, _∙_}
 use mathlib.Core.List.{List, [], _∷_, _++_}
 use native.Mathlib.Omega.{arith}
 use lib.ListN.{length, getD, replicate}
@@ -10,7 +10,7 @@ use lib.Seq.{take-append-seam}
 use Rattle.rows.specs.Languages.{C, Cpp, C89, C99, Cpp17}
 use Rattle.rows.specs.Format.{format, head-length, most-tokens}
 use Rattle.rows.specs.Kinds.{LeftParen, RightParen, Star, Less, Greater}
-use Rattle.rows.specs.Records.{RowToken, row, head, records-from}
+use Rattle.rows.specs.Records.{RowToken, row, head, records-from, kinds-of, words-of}
 use Rattle.rows.specs.declared.answer.TypeNameError.{TypeNameError}
 use Rattle.rows.specs.declared.answer.TypeNameError.the-variants.{AllowancePassed}
 use Rattle.rows.specs.declared.answer.Answer.{Answer}
@@ -20,10 +20,12 @@ use Rattle.rows.specs.declared.head.FileHead.the-variants.{Formed}
 use Rattle.reader.specs.Nodes.{Nodes, none, node, T-node, G-node, L-node, A-node, count, records}
 use Rattle.reader.specs.Standing.{tokens-of}
 use Rattle.reader.specs.Written.{Token, sign}
-use Rattle.type_name.specs.Answers.{answer, filled, final-buffer}
+use Rattle.type_name.specs.Answers.{unlimited, answer, filled, final-buffer}
 use Rattle.type_name.specs.Promises.{Answered, Buffered, AcceptedAs}
 use Rattle.type_name.specs.Lines.{file-line}
 use Rattle.type_name.specs.StarredRows.{word, int-row, long-long}
+use Rattle.type_name.specs.Laws.Parts.{is-refused, one-row, one-head}
+use Rattle.type_name.specs.Laws.OnlyThen.{row-steps, Spent, only-then}
 
 -- ---- readers
 
@@ -74,6 +76,18 @@ CopiesFlat r =
 -- "the one that reports 25 before any step"
 abbrev pub ReportsAtOnce : Reader → Type 0
 ReportsAtOnce r = (file before : List ℕ) (ts : List RowToken) → Holds file ts → (steps : ℕ) × (r .answers file before ≡ Refused AllowancePassed steps)
+
+-- The same anywhere: 25 for a row whose steps stay within the allowance. "25 step count would pass the allowance, and only then".
+pub record ReportsEarly (r : Reader) : Type 0 where
+  pub file : List ℕ
+  pub before : List ℕ
+  pub head-of : Head
+  pub formed : head format file ≡ Formed head-of
+  pub tokens : List RowToken
+  pub row-read : Holds file tokens
+  pub suffices : row-steps (unlimited (head-of .language) (head-of .standard) (head-of .flag) (kinds-of tokens) (words-of tokens)) ≤ head-of .allowance
+  pub steps : ℕ
+  pub says : r .answers file before ≡ Refused AllowancePassed steps
 
 -- "an invented count": the head, the number of tokens and all else that is returned say how many steps.
 abbrev pub InventsSteps : Reader → Type 0
@@ -160,10 +174,6 @@ untried-works = record { formed = refl; row-read = refl; is-answer = refl; is-bu
 
 -- ---- shut out
 
-is-refused : Answer → ℕ
-is-refused (Accepted nodes steps) = 0
-is-refused (Refused e steps) = 1
-
 module _ (r : Reader) (m : Meets r) where
   module _ {language standard flag : ℕ} {ts : List Token} {x : Nodes} {steps : ℕ} (w : Works language standard flag ts x steps) where
     says : r .answers (file-of language standard flag ts) dirty ≡ Accepted (count x) steps
@@ -181,7 +191,6 @@ module _ (r : Reader) (m : Meets r) where
 
   -- "the reader that turns every row down"
   pub turns-not-every-row-down : TurnsDown r → ⊥
-  unfolding is-refused
   turns-not-every-row-down f =
       let (e, steps, q) = f _ dirty _ (int-works .row-read) in
       let clash : _≡_ {A = ℕ} 0 1 = ap is-refused (sym (says int-works) ∙ q) in
@@ -190,6 +199,17 @@ module _ (r : Reader) (m : Meets r) where
   -- "the one that reports 25 before any step"
   pub reports-not-at-once : ReportsAtOnce r → ⊥
   reports-not-at-once f = turns-not-every-row-down (λ file before ts h. (AllowancePassed, f file before ts h .0, f file before ts h .1))
+
+  -- "25 step count would pass the allowance, and only then"
+  pub reports-not-early : ReportsEarly r → ⊥
+  reports-not-early e =
+      let s : Spent (e .file) (e .steps) = only-then (e .file) (length (e .before)) (e .steps) (sym (m .answered (e .file) (e .before)) ∙ e .says) in
+      let Passes : Head → List RowToken → Type 0 =
+      λ h ts. h .allowance < row-steps (unlimited (h .language) (h .standard) (h .flag) (kinds-of ts) (words-of ts)) in
+      let same-head : s .head-of ≡ e .head-of = one-head (head format (e .file)) (s .head-of) (e .head-of) (s .formed) (e .formed) in
+      let same-row : s .tokens ≡ e .tokens = one-row _ (s .tokens) (e .tokens) (s .row-read) (e .row-read) in
+      let passes : Passes (e .head-of) (e .tokens) = subst (Passes (e .head-of)) same-row (subst (λ (h : Head). Passes h (s .tokens)) same-head (s .passes)) in
+      omega (arith, e .suffices, passes)
 
   -- "the one that returns one tree for all rows"
   pub not-one-tree : OneTree r → ⊥

@@ -21,6 +21,7 @@ use Rattle.rows.specs.declared.head.FileHead.the-variants.{Formed, Refused}
 use Rattle.reader.specs.Nodes.{Nodes, numbers-per-token, count, records}
 use Rattle.type_name.specs.Answers.{accepted, answerOf, read, of-row, of-records, of-head, outcome, answer-in, answer, filled, buffer-in, final-buffer}
 use Rattle.type_name.specs.Promises.{NotBelow}
+use Rattle.type_name.specs.Laws.Parts.{one-head}
 use Rattle.type_name.specs.Laws.AcceptedRow.{RowAccepted, FileAccepted, row-stable}
 use Rattle.type_name.specs.Laws.SameRecords.{records-same}
 
@@ -49,9 +50,6 @@ module _ (file : List ℕ) where
 
   formed-long : (h : Head) → head format file ≡ Formed h → head-length ≤ length file
   formed-long h e = subst (LongHead file) e head-long
-
-one-head : (g : FileHead) (h h′ : Head) → g ≡ Formed h → g ≡ Formed h′ → h ≡ h′
-one-head g h h′ p q = cc
 
 -- ---- the other file's outcome
 
