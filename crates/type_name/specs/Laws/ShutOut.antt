@@ -21,7 +21,7 @@ use Rattle.reader.specs.Nodes.{Nodes, none, node, T-node, G-node, L-node, A-nod
 use Rattle.reader.specs.Standing.{tokens-of}
 use Rattle.reader.specs.Written.{Token, sign}
 use Rattle.type_name.specs.Answers.{unlimited, answer, filled, final-buffer}
-use Rattle.type_name.specs.Promises.{Answered, Buffered, AcceptedAs}
+use Rattle.type_name.specs.Promises.{Answered, Buffered, AcceptedAs, Promised}
 use Rattle.type_name.specs.Lines.{file-line}
 use Rattle.type_name.specs.StarredRows.{word, int-row, long-long}
 use Rattle.type_name.specs.Laws.Parts.{is-refused, one-row, one-head}
@@ -38,6 +38,10 @@ pub record Reader : Type 0 where
 pub record Meets (r : Reader) : Type 0 where
   pub answered : (file before : List ℕ) → Answered file before (r .answers file before)
   pub buffered : (file before : List ℕ) → Buffered file before (r .leaves file before)
+
+-- The entry's contract asks more.
+pub contract-met : (r : Reader) → ((file before : List ℕ) → Promised file before (r .answers file before) (r .leaves file before)) → Meets r
+contract-met r c = record { answered = λ file before. c file before .answered; buffered = λ file before. c file before .buffered }
 
 -- The file holds this row.
 abbrev pub Holds : (file : List ℕ) → List RowToken → Type 0
@@ -73,11 +77,12 @@ CopiesFlat r =
     (file before : List ℕ) (ts : List RowToken) (nodes steps : ℕ) → Accepts r file before ts nodes steps
     → r .leaves file before ≡ filled (length before) (records (flat 0 (length ts)))
 
--- "the one that reports 25 before any step"
+-- "the one that reports 25 before any step": of whatever the definition accepts.
 abbrev pub ReportsAtOnce : Reader → Type 0
-ReportsAtOnce r = (file before : List ℕ) (ts : List RowToken) → Holds file ts → (steps : ℕ) × (r .answers file before ≡ Refused AllowancePassed steps)
+ReportsAtOnce r =
+    (file before : List ℕ) (nodes steps : ℕ) → answer file (length before) ≡ Accepted nodes steps → (m : ℕ) × (r .answers file before ≡ Refused AllowancePassed m)
 
--- The same anywhere: 25 for a row whose steps stay within the allowance. "25 step count would pass the allowance, and only then".
+-- One that reports 25 of some row whose steps stay within the allowance. "25 step count would pass the allowance, and only then".
 pub record ReportsEarly (r : Reader) : Type 0 where
   pub file : List ℕ
   pub before : List ℕ
@@ -189,16 +194,23 @@ module _ (r : Reader) (m : Meets r) where
     unfolding filled
     held = record { answered = says; row-read = w .row-read; tree-held = rw leaves (take-append-seam (records x) _) }
 
+  not-refused : {language standard flag : ℕ} {ts : List Token} {x : Nodes} {steps : ℕ} → Works language standard flag ts x steps
+      → (e : TypeNameError) (k : ℕ) → r .answers (file-of language standard flag ts) dirty ≡ Refused e k → ⊥
+  not-refused w e k q =
+      let clash : _≡_ {A = ℕ} 0 1 = ap is-refused (sym (says w) ∙ q) in
+      omega (arith, clash)
+
   -- "the reader that turns every row down"
   pub turns-not-every-row-down : TurnsDown r → ⊥
   turns-not-every-row-down f =
-      let (e, steps, q) = f _ dirty _ (int-works .row-read) in
-      let clash : _≡_ {A = ℕ} 0 1 = ap is-refused (sym (says int-works) ∙ q) in
-      absurd (omega (arith, clash))
+      let (e, k, q) = f _ dirty _ (int-works .row-read) in
+      not-refused int-works e k q
 
   -- "the one that reports 25 before any step"
   pub reports-not-at-once : ReportsAtOnce r → ⊥
-  reports-not-at-once f = turns-not-every-row-down (λ file before ts h. (AllowancePassed, f file before ts h .0, f file before ts h .1))
+  reports-not-at-once f =
+      let (k, q) = f _ dirty _ _ (int-works .is-answer) in
+      not-refused int-works AllowancePassed k q
 
   -- "25 step count would pass the allowance, and only then"
   pub reports-not-early : ReportsEarly r → ⊥
