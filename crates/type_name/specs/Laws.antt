@@ -1,1 +1,9 @@
+pub mod Parts
 pub mod Total
+pub mod OnlyThen
+pub mod AcceptedRow
+pub mod SameRecords
+pub mod RowTokens
+pub mod Stable
+pub mod Promised
+pub mod ShutOut
