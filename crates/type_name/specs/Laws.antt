@@ -7,3 +7,8 @@ pub mod RowTokens
 pub mod Stable
 pub mod Promised
 pub mod ShutOut
+pub mod Entry
+pub mod FinalBuffer
+pub mod FewTokens
+pub mod EntryFile
+pub mod Exported
