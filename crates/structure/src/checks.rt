@@ -76,14 +76,11 @@ pub fn validate_c_family_type(
             }
             TypeMove::Inside(inner, next) => {
                 let said = test(language, tree, kinds, words, inner, at + 1, end, left);
-                match said {
-                    Verdict::Holds(steps) => {
-                        left = steps;
-                        st = next;
-                    }
-                    Verdict::Fails(steps) => return Verdict::Fails(steps),
-                    Verdict::Spent => return Verdict::Spent,
-                }
+                let Verdict::Holds(steps) = said else {
+                    return said;
+                };
+                left = steps;
+                st = next;
             }
         }
         before = shape;
@@ -138,25 +135,19 @@ fn validate_abstract_declarator(
                             end,
                             left,
                         );
-                        match said {
-                            Verdict::Holds(steps) => {
-                                left = steps;
-                                st = next;
-                            }
-                            Verdict::Fails(steps) => return Verdict::Fails(steps),
-                            Verdict::Spent => return Verdict::Spent,
-                        }
+                        let Verdict::Holds(steps) = said else {
+                            return said;
+                        };
+                        left = steps;
+                        st = next;
                     }
                     _ => {
                         let said = test(language, tree, kinds, words, inner, at + 1, end, left);
-                        match said {
-                            Verdict::Holds(steps) => {
-                                left = steps;
-                                st = next;
-                            }
-                            Verdict::Fails(steps) => return Verdict::Fails(steps),
-                            Verdict::Spent => return Verdict::Spent,
-                        }
+                        let Verdict::Holds(steps) = said else {
+                            return said;
+                        };
+                        left = steps;
+                        st = next;
                     }
                 }
             }
@@ -200,14 +191,11 @@ pub fn validate_expression(
             }
             ExpressionMove::Inside(inner, next) => {
                 let said = test(language, tree, kinds, words, inner, at + 1, end, left);
-                match said {
-                    Verdict::Holds(steps) => {
-                        left = steps;
-                        st = next;
-                    }
-                    Verdict::Fails(steps) => return Verdict::Fails(steps),
-                    Verdict::Spent => return Verdict::Spent,
-                }
+                let Verdict::Holds(steps) = said else {
+                    return said;
+                };
+                left = steps;
+                st = next;
             }
         }
         at = end;
@@ -315,13 +303,10 @@ fn either(
     ensures { λ r. ⌜ Passes language (now (tree .entry)) (now (kinds .entry)) (now (words .entry)) from to allowed type-or-expression r ⌝ }
 {
     let said = validate_c_family_type(language, tree, kinds, words, from, to, allowed);
-    match said {
-        Verdict::Holds(steps) => return Verdict::Holds(steps),
-        Verdict::Fails(steps) => {
-            return validate_expression(language, tree, kinds, words, from, to, steps);
-        }
-        Verdict::Spent => return Verdict::Spent,
-    }
+    let Verdict::Fails(steps) = said else {
+        return said;
+    };
+    validate_expression(language, tree, kinds, words, from, to, steps)
 }
 
 fn validate_cpp_template_argument(
@@ -360,13 +345,10 @@ fn arguments(
     while at < to {
         let end = node_end(tree, kinds, at, to);
         let said = validate_cpp_template_argument(language, tree, kinds, words, at + 1, end, left);
-        match said {
-            Verdict::Holds(steps) => {
-                left = steps;
-            }
-            Verdict::Fails(steps) => return Verdict::Fails(steps),
-            Verdict::Spent => return Verdict::Spent,
-        }
+        let Verdict::Holds(steps) = said else {
+            return said;
+        };
+        left = steps;
         at = end;
     }
     Verdict::Holds(left)
@@ -413,13 +395,10 @@ fn validate_parameter_type_list(
     loop {
         let end = part_end(tree, kinds, at, to);
         let said = parameter(language, tree, kinds, words, at, end, left);
-        match said {
-            Verdict::Holds(steps) => {
-                left = steps;
-            }
-            Verdict::Fails(steps) => return Verdict::Fails(steps),
-            Verdict::Spent => return Verdict::Spent,
-        }
+        let Verdict::Holds(steps) = said else {
+            return said;
+        };
+        left = steps;
         if end == to {
             return Verdict::Holds(left);
         }

@@ -20,7 +20,7 @@ use Rattle.structure.specs.Allowance.{limited}
 use Rattle.structure.specs.Says.{Says, Answers, Passes}
 use Rattle.structure.specs.Laws.Ranges.{empty-range}
 use Rattle.structure.specs.Laws.Commas.{stands-next}
-use Rattle.structure.specs.Laws.Limits.{on-holds, on-fails, limited-both, limited-either, limited-yes, limited-no}
+use Rattle.structure.specs.Laws.Limits.{on-holds, on-fails, Settles, limited-both, limited-either, limited-yes, limited-no}
 use Rattle.structure.specs.declared.moves.Verdict.{Verdict}
 use Rattle.structure.specs.declared.moves.Verdict.the-variants.{Holds, Fails, Spent}
 use Rattle.structure.specs.declared.moves.Inner.{Inner}
@@ -94,13 +94,8 @@ module _ {tree kinds : List ℕ} {from to left : ℕ} {what : Nodes → Said} wh
     tried : (x : Nodes) → Stands tree kinds from to x → limited left (what x) ≡ on-fails v (λ l. limited l (g x))
     tried x s = rw (e x) (limited-either left _ _ ∙ rw (← sv .says x s))
 
-    pub first-holds : {l : ℕ} → v ≡ Holds l → Says tree kinds from to left what (Holds l)
-    unfolding on-fails
-    first-holds q = record { says = λ x s. sym (tried x s ∙ rw q) }
-
-    pub first-spent : v ≡ Spent → Says tree kinds from to left what Spent
-    unfolding on-fails
-    first-spent q = record { says = λ x s. sym (tried x s ∙ rw q) }
+    pub first-settles : Settles v → Says tree kinds from to left what v
+    first-settles q = record { says = λ x s. sym (tried x s ∙ q .settles _) }
 
     pub then-second : {l : ℕ} {u : Verdict} → v ≡ Fails l → Says tree kinds from to l g u → Says tree kinds from to left what u
     unfolding on-fails
