@@ -28,12 +28,12 @@ use crate::tables::c_family_node;
 use crate::words::NO_WORD;
 use rows::kinds::STAR;
 ghost use mathlib.Core.Path.{_≡_};
+ghost use mathlib.Core.Bool.{false};
 ghost use Rattle.structure.specs.Moves.{type-or-expression, arguments};
 ghost use Rattle.structure.specs.Structure.{a-type, a-declarator, an-expression, checked, validate-cpp-template-argument, validate-parameter};
 ghost use Rattle.structure.specs.Structure.{validate-parameter-type-list};
 ghost use Rattle.structure.specs.Represented.{test-of};
 ghost use Rattle.structure.specs.Stands.{Ready};
-ghost use mathlib.Core.Bool.{false};
 ghost use Rattle.structure.specs.Says.{Says, Answers, Passes, for-fortran};
 
 pub fn validate_c_family_type(
@@ -203,7 +203,7 @@ pub fn validate_expression(
     plain(expression_end(st), left)
 }
 
-// What is asked of the nodes below a node, in all types but those of Fortran.
+// What is asked of the nodes below a node. Selectors are asked of in Fortran's types alone, and not here.
 fn test(
     language: u8,
     tree: &[u32],
@@ -218,24 +218,12 @@ fn test(
     ensures { λ r. ⌜ Passes language (now (tree .entry)) (now (kinds .entry)) (now (words .entry)) from to allowed (test-of inner) r ⌝ }
 {
     match inner {
-        Inner::TypeName => return validate_c_family_type(
-            language,
-            tree,
-            kinds,
-            words,
-            from,
-            to,
-            allowed,
-        ),
-        Inner::Expression => return validate_expression(
-            language,
-            tree,
-            kinds,
-            words,
-            from,
-            to,
-            allowed,
-        ),
+        Inner::TypeName => {
+            return validate_c_family_type(language, tree, kinds, words, from, to, allowed);
+        }
+        Inner::Expression => {
+            return validate_expression(language, tree, kinds, words, from, to, allowed);
+        }
         Inner::SomeExpression => {
             if from == to {
                 return Verdict::Fails(allowed);
@@ -258,15 +246,9 @@ fn test(
             }
             return validate_expression(language, tree, kinds, words, from, to, allowed);
         }
-        Inner::Declarator => return validate_abstract_declarator(
-            language,
-            tree,
-            kinds,
-            words,
-            from,
-            to,
-            allowed,
-        ),
+        Inner::Declarator => {
+            return validate_abstract_declarator(language, tree, kinds, words, from, to, allowed);
+        }
         Inner::Arguments => return arguments(language, tree, kinds, words, from, to, allowed),
         Inner::Selectors => return Verdict::Spent,
         Inner::DeclaratorOrParameters(word) => {
@@ -289,7 +271,7 @@ fn test(
     }
 }
 
-// `||`: the steps of the first try stay counted.
+// A type, or else an expression; the steps of the first try stay counted.
 fn either(
     language: u8,
     tree: &[u32],
