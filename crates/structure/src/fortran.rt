@@ -150,14 +150,11 @@ pub fn validate_fortran_type(
                     end,
                     left,
                 );
-                match said {
-                    Verdict::Holds(steps) => {
-                        left = steps;
-                        st = next;
-                    }
-                    Verdict::Fails(steps) => return Verdict::Fails(steps),
-                    Verdict::Spent => return Verdict::Spent,
-                }
+                let Verdict::Holds(steps) = said else {
+                    return said;
+                };
+                left = steps;
+                st = next;
             }
         }
         at = end;
