@@ -156,14 +156,13 @@ fn write(case: &Case, fill: u32, list: &mut Vec<u8>) {
     let stored = &tree[..stored.map_or(0, |last| last + 1)];
     let head = [case.file.len() as u32, case.tree_len as u32, fill];
     let end = [stored.len() as u32, behind];
-    for number in head.into_iter().chain(numbers(answer)).chain(end) {
-        list.extend(number.to_le_bytes());
-    }
+    put(list, head.into_iter().chain(numbers(answer)).chain(end));
     list.extend(&case.file);
-    for &number in stored {
-        let number = u16::try_from(number).expect("a tree's numbers are small");
-        list.extend(number.to_le_bytes());
-    }
+    put(list, stored.iter().copied());
+}
+
+fn put(list: &mut Vec<u8>, numbers: impl Iterator<Item = u32>) {
+    list.extend(numbers.flat_map(u32::to_le_bytes));
 }
 
 /// The four numbers of an answer record.

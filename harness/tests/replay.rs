@@ -11,7 +11,7 @@ struct Stored {
     buffer: usize,
     fill: u32,
     answer: [u32; 4],
-    tree: Vec<u16>,
+    tree: Vec<u32>,
     behind: u32,
 }
 
@@ -23,7 +23,7 @@ fn stored(list: &[u8]) -> Vec<Stored> {
         let (head, after) = rest.split_at(36);
         let number = |at: usize| u32::from_le_bytes(head[4 * at..4 * at + 4].try_into().unwrap());
         let (file, after) = after.split_at(number(0) as usize);
-        let (tree, after) = after.split_at(2 * number(7) as usize);
+        let (tree, after) = after.split_at(4 * number(7) as usize);
         cases.push(Stored {
             file: file.to_vec(),
             buffer: number(1) as usize,
@@ -33,7 +33,7 @@ fn stored(list: &[u8]) -> Vec<Stored> {
                 .as_chunks()
                 .0
                 .iter()
-                .map(|pair| u16::from_le_bytes(*pair))
+                .map(|bytes| u32::from_le_bytes(*bytes))
                 .collect(),
             behind: number(8),
         });
