@@ -66,11 +66,12 @@ fn the_list_holds_every_answer_and_is_the_one_that_is_replayed() {
     assert_eq!(wanted, format!("{} replayed, 0 differ\n", cases.len()));
 
     let mut refusals = BTreeSet::new();
+    let mut details = BTreeSet::new();
     let mut profiles = BTreeSet::new();
     let mut buffers = BTreeSet::new();
     let mut allowances = BTreeSet::new();
     for case in &cases {
-        let [number, _, _, steps] = case.answer;
+        let [number, _, detail, steps] = case.answer;
         assert_ne!(case.fill, 0);
         let is_kept = (1..=6).contains(&number);
         if case.buffer > case.tree.len() {
@@ -78,6 +79,7 @@ fn the_list_holds_every_answer_and_is_the_one_that_is_replayed() {
         }
         assert!(case.tree.is_empty() || number == 0);
         refusals.insert(number);
+        details.insert((number, detail));
         let Ok(row) = Row::read(&case.file) else {
             continue;
         };
@@ -97,6 +99,8 @@ fn the_list_holds_every_answer_and_is_the_one_that_is_replayed() {
         0, 1, 2, 3, 4, 5, 6, 10, 11, 12, 13, 14, 15, 16, 17, 18, 20, 21, 22, 25, 30, 40,
     ];
     assert_eq!(refusals, BTreeSet::from(every));
+    assert!((0..=2).all(|detail| details.contains(&(11, detail))));
+    assert!((1..=11).all(|detail| details.contains(&(40, detail))));
     // 18 standards and 255 in three languages, both flags, accepted and not.
     assert_eq!(profiles.len(), (18 + 3) * 2 * 2);
     for wanted in ["equal", "more"] {
