@@ -13,5 +13,7 @@ pub mod Runs
 pub mod Parts
 pub mod Checks
 pub mod Inside
+pub mod Asked
+pub mod Trees
 pub mod SpecifierTables
 pub mod SpecifierLoop

@@ -1,4 +1,6 @@
 // The checks that call one another: the loops over the nodes of a level, and what is asked of the nodes below a node. Each loop counts one step.
+// They stand in one file, and those that the original has no name for have short ones: the prover names what it makes of them after all of them, and
+// crates that use it get what it made only under names of at most 249 bytes.
 
 use crate::expressions::expression_end;
 use crate::expressions::expression_node;
@@ -24,18 +26,15 @@ use crate::specifiers::validate_c_decl_specifiers;
 use crate::tables::abstract_declarator_node;
 use crate::tables::c_family_node;
 use crate::words::NO_WORD;
-use rows::kinds::COLON;
-use rows::kinds::EQUAL;
-use rows::kinds::IDENTIFIER;
 use rows::kinds::STAR;
 ghost use mathlib.Core.Path.{_≡_};
 ghost use Rattle.structure.specs.Moves.{type-or-expression, arguments};
 ghost use Rattle.structure.specs.Structure.{a-type, a-declarator, an-expression, checked, validate-cpp-template-argument, validate-parameter};
-ghost use Rattle.structure.specs.Structure.{validate-parameter-type-list, validate-fortran-selector-value, validate-fortran-selector};
-ghost use Rattle.structure.specs.Structure.{validate-fortran-selector-list};
+ghost use Rattle.structure.specs.Structure.{validate-parameter-type-list};
 ghost use Rattle.structure.specs.Represented.{test-of};
 ghost use Rattle.structure.specs.Stands.{Ready};
-ghost use Rattle.structure.specs.Says.{Says, Answers, Passes};
+ghost use mathlib.Core.Bool.{false};
+ghost use Rattle.structure.specs.Says.{Says, Answers, Passes, for-fortran};
 
 pub fn validate_c_family_type(
     language: u8,
@@ -94,7 +93,7 @@ pub fn validate_c_family_type(
     plain(st.word, left)
 }
 
-pub fn validate_abstract_declarator(
+fn validate_abstract_declarator(
     language: u8,
     tree: &[u32],
     kinds: &[u8],
@@ -216,8 +215,8 @@ pub fn validate_expression(
     plain(expression_end(st), left)
 }
 
-// What is asked of the nodes below a node.
-pub fn test(
+// What is asked of the nodes below a node, in all types but those of Fortran.
+fn test(
     language: u8,
     tree: &[u32],
     kinds: &[u8],
@@ -227,7 +226,7 @@ pub fn test(
     to: usize,
     allowed: usize,
 ) -> Verdict
-    requires { ⌜ Ready (now tree) (now kinds) (now words) from to ⌝ }
+    requires { ⌜ (for-fortran (test-of inner) ≡ false) × Ready (now tree) (now kinds) (now words) from to ⌝ }
     ensures { λ r. ⌜ Passes language (now (tree .entry)) (now (kinds .entry)) (now (words .entry)) from to allowed (test-of inner) r ⌝ }
 {
     match inner {
@@ -261,15 +260,7 @@ pub fn test(
             }
             return validate_expression(language, tree, kinds, words, from, to, allowed);
         }
-        Inner::TypeOrExpression => return type_or_expression(
-            language,
-            tree,
-            kinds,
-            words,
-            from,
-            to,
-            allowed,
-        ),
+        Inner::TypeOrExpression => return either(language, tree, kinds, words, from, to, allowed),
         Inner::ArrayBound => {
             if from == to {
                 return Verdict::Holds(allowed);
@@ -289,15 +280,7 @@ pub fn test(
             allowed,
         ),
         Inner::Arguments => return arguments(language, tree, kinds, words, from, to, allowed),
-        Inner::Selectors => return validate_fortran_selector_list(
-            language,
-            tree,
-            kinds,
-            words,
-            from,
-            to,
-            allowed,
-        ),
+        Inner::Selectors => return Verdict::Spent,
         Inner::DeclaratorOrParameters(word) => {
             if looks_like_abstract_declarator(tree, kinds, from, to) {
                 return validate_abstract_declarator(
@@ -319,7 +302,7 @@ pub fn test(
 }
 
 // `||`: the steps of the first try stay counted.
-pub fn type_or_expression(
+fn either(
     language: u8,
     tree: &[u32],
     kinds: &[u8],
@@ -356,11 +339,11 @@ fn validate_cpp_template_argument(
     if from == to {
         return Verdict::Fails(allowed);
     }
-    type_or_expression(language, tree, kinds, words, from, to, allowed)
+    either(language, tree, kinds, words, from, to, allowed)
 }
 
 // The arguments below an L.
-pub fn arguments(
+fn arguments(
     language: u8,
     tree: &[u32],
     kinds: &[u8],
@@ -430,89 +413,6 @@ fn validate_parameter_type_list(
     loop {
         let end = part_end(tree, kinds, at, to);
         let said = parameter(language, tree, kinds, words, at, end, left);
-        match said {
-            Verdict::Holds(steps) => {
-                left = steps;
-            }
-            Verdict::Fails(steps) => return Verdict::Fails(steps),
-            Verdict::Spent => return Verdict::Spent,
-        }
-        if end == to {
-            return Verdict::Holds(left);
-        }
-        at = node_end(tree, kinds, end, to);
-    }
-}
-
-fn validate_fortran_selector_value(
-    language: u8,
-    tree: &[u32],
-    kinds: &[u8],
-    words: &[u8],
-    from: usize,
-    to: usize,
-    allowed: usize,
-) -> Verdict
-    requires { ⌜ Ready (now tree) (now kinds) (now words) from to ⌝ }
-    ensures { λ r. ⌜ Answers validate-fortran-selector-value language (now (tree .entry)) (now (kinds .entry)) (now (words .entry)) from to allowed r ⌝ }
-{
-    let star = is_single_token(tree, kinds, STAR, from, to);
-    if star | is_single_token(tree, kinds, COLON, from, to) {
-        return Verdict::Holds(allowed);
-    }
-    validate_expression(language, tree, kinds, words, from, to, allowed)
-}
-
-// One selector, with or without a keyword and `=`.
-fn selector(
-    language: u8,
-    tree: &[u32],
-    kinds: &[u8],
-    words: &[u8],
-    from: usize,
-    to: usize,
-    allowed: usize,
-) -> Verdict
-    requires { ⌜ Ready (now tree) (now kinds) (now words) from to ⌝ }
-    ensures { λ r. ⌜ Answers validate-fortran-selector language (now (tree .entry)) (now (kinds .entry)) (now (words .entry)) from to allowed r ⌝ }
-{
-    if shape_at(tree, kinds, from, to) != IDENTIFIER {
-        return validate_fortran_selector_value(language, tree, kinds, words, from, to, allowed);
-    }
-    let second = node_end(tree, kinds, from, to);
-    if shape_at(tree, kinds, second, to) != EQUAL {
-        return validate_fortran_selector_value(language, tree, kinds, words, from, to, allowed);
-    }
-    let value = node_end(tree, kinds, second, to);
-    if value == to {
-        return Verdict::Fails(allowed);
-    }
-    validate_fortran_selector_value(language, tree, kinds, words, value, to, allowed)
-}
-
-pub fn validate_fortran_selector_list(
-    language: u8,
-    tree: &[u32],
-    kinds: &[u8],
-    words: &[u8],
-    from: usize,
-    to: usize,
-    allowed: usize,
-) -> Verdict
-    requires { ⌜ Ready (now tree) (now kinds) (now words) from to ⌝ }
-    ensures { λ r. ⌜ Answers validate-fortran-selector-list language (now (tree .entry)) (now (kinds .entry)) (now (words .entry)) from to allowed r ⌝ }
-{
-    if from == to {
-        return Verdict::Fails(allowed);
-    }
-    if !parts_are_full(tree, kinds, from, to) {
-        return Verdict::Fails(allowed);
-    }
-    let mut left = allowed;
-    let mut at = from;
-    loop {
-        let end = part_end(tree, kinds, at, to);
-        let said = selector(language, tree, kinds, words, at, end, left);
         match said {
             Verdict::Holds(steps) => {
                 left = steps;

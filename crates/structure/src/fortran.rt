@@ -1,6 +1,5 @@
 // Fortran type names: the head, what the loop does at a node, and the check.
 
-use crate::checks::test;
 use crate::moves::FortranLoop;
 use crate::moves::FortranMove;
 use crate::moves::Inner;
@@ -12,6 +11,7 @@ use crate::nodes::node_at;
 use crate::nodes::node_end;
 use crate::nodes::node_identifier;
 use crate::nodes::shape_at;
+use crate::selectors::validate_fortran_selector_list;
 use crate::sets::is_derived_type_word;
 use crate::sets::is_word_after_double;
 use crate::shapes::PARENTHESIZED;
@@ -140,8 +140,16 @@ pub fn validate_fortran_type(
             FortranMove::On(next) => {
                 st = next;
             }
-            FortranMove::Inside(inner, next) => {
-                let said = test(language, tree, kinds, words, inner, at + 1, end, left);
+            FortranMove::Inside(_, next) => {
+                let said = validate_fortran_selector_list(
+                    language,
+                    tree,
+                    kinds,
+                    words,
+                    at + 1,
+                    end,
+                    left,
+                );
                 match said {
                     Verdict::Holds(steps) => {
                         left = steps;

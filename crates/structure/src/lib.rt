@@ -7,6 +7,7 @@ pub mod fortran;
 pub mod moves;
 pub mod nodes;
 pub mod parts;
+pub mod selectors;
 pub mod sets;
 pub mod shapes;
 pub mod specifiers;

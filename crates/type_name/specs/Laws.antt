@@ -1,1 +1,14 @@
+pub mod Parts
 pub mod Total
+pub mod OnlyThen
+pub mod AcceptedRow
+pub mod SameRecords
+pub mod RowTokens
+pub mod Stable
+pub mod Promised
+pub mod ShutOut
+pub mod Entry
+pub mod FinalBuffer
+pub mod FewTokens
+pub mod EntryFile
+pub mod Exported

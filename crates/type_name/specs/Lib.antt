@@ -1,4 +1,6 @@
 pub mod Answers
+pub mod EntrySays
+pub mod Export
 pub mod Promises
 pub mod Lines
 pub mod StarredRows

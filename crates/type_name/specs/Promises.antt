@@ -109,3 +109,15 @@ abbrev pub Stable : (file : List ℕ) → Answer → (after : List ℕ) → Type
 Stable file a after =
     (ts : List RowToken) (x : Nodes) (steps : ℕ) → AcceptedAs file a after ts x steps → (file′ before′ : List ℕ) → NotBelow file file′ before′ ts steps
     → (answer file′ (length before′) ≡ Accepted (count x) steps) × (final-buffer file′ before′ ≡ filled (length before′) (records x))
+
+-- ---- the contract
+
+-- The three demands of one call; the entry's contract is this.
+pub record Promised (file before : List ℕ) (a : Answer) (after : List ℕ) : Type 0 where
+  pub answered : Answered file before a
+  pub buffered : Buffered file before after
+  pub tree-defined : TreeDefined file before a after
+  pub nested : Nested file a after
+  pub brackets-paired : BracketsPaired file a after
+  pub written-out : WrittenOut file a after
+  pub stable : Stable file a after

@@ -2,26 +2,24 @@
 -- (That there is one answer is in the types: `answer` and `final-buffer` are functions of the file and the buffer, defined everywhere.)
 -- Assumes nothing.
 use Prim.Native.Nat.{ℕ, _+_, _-_, _*_, _≤_, _<_}
-use mathlib.Core.Path.{_≡_, refl, ap, sym, subst, _∙_}
-use mathlib.Core.Bool.{Bool, true, false, not, _&&_, _||_}
-use mathlib.Core.List.{List, [], _∷_, _++_}
+use mathlib.Core.Path.{_≡_, refl, ap}
+use mathlib.Core.Logic.{_⊎_, inl, inr}
+use mathlib.Core.Bool.{Bool, true, false, _&&_}
+use mathlib.Core.List.{List, [], _∷_}
 use native.Mathlib.Omega.{arith}
 use lib.ListN.{length, replicate}
-use lib.Dec.{T, leb, ltb, eqb, leb→le, le→leb}
-use mir.Facts.{and-yes}
-use Rattle.rows.specs.Notation.{if_then_else_, _is-one-of_}
+use lib.Dec.{T, leb, ltb, eqb, le→leb}
+use Rattle.rows.specs.Notation.{_is-one-of_}
 use Rattle.rows.specs.Languages.{Cpp}
 use Rattle.rows.specs.Format.{format, head-length, most-tokens}
 use Rattle.rows.specs.Records.{RowToken, Row, row, head, records-from, kinds-of, words-of}
 use Rattle.rows.specs.Records
-use Rattle.rows.specs.Refusals.{refusalOf, featureDetail}
+use Rattle.rows.specs.Refusals.{refusalOf}
 use Rattle.rows.specs.Laws.Tests.{by-if}
 use Rattle.rows.specs.Laws.Numbered.{Between, HeadNumbered, head-numbered, RowNumbered, records-numbered}
-use Rattle.rows.specs.declared.answer.Feature.{Feature}
 use Rattle.rows.specs.declared.answer.TypeNameError.{TypeNameError}
 use Rattle.rows.specs.declared.answer.TypeNameError.the-variants.{FileTooLong, InvalidHead, UnknownProfile, InvalidRecord, TooManyRecords, ShortBuffer, Empty, UnexpectedClosingDelimiter, UnexpectedAngle, TopLevelComma, UnexpectedEndToken, UnclosedDelimiter, UnclosedAngle, MissingTypeWord, InvalidBoundaryToken, NestingLimitExceeded, UnterminatedGroup, MismatchedClosingDelimiter, UnexpectedTokenAfterTypeName, AllowancePassed, NoTypeName, NotAvailableInProfile}
-use Rattle.rows.specs.declared.answer.Answer.{Answer}
-use Rattle.rows.specs.declared.answer.Answer.the-variants.{Accepted, Refused}
+use Rattle.rows.specs.declared.answer.Answer.the-variants.{Refused}
 use Rattle.rows.specs.declared.head.Head.{Head}
 use Rattle.rows.specs.declared.head.FileHead.{FileHead}
 use Rattle.rows.specs.declared.head.FileHead.the-variants as FileHead
@@ -38,6 +36,7 @@ use Rattle.profile.specs.Profile.{missing-feature}
 use Rattle.profile.specs.declared.profile.Lack.{Lack}
 use Rattle.profile.specs.declared.profile.Lack.the-variants.{Nothing, Lacks}
 use Rattle.type_name.specs.Answers.{RowAnswer, accepted, refused, refusal-of, after-structure, after-reading, structure-of, whole-row, after-prescan, from-prescan, unlimited, limited, answerOf, Outcome, untouched, read, of-row, of-records, of-head, outcome, answer-in, answer, filled, buffer-in, final-buffer}
+use Rattle.type_name.specs.Laws.Parts.{is-refused, number-in, bounds}
 
 -- ---- the numbers
 
@@ -76,6 +75,11 @@ abbrev RowPlaced : RowAnswer → Type 0
 RowPlaced (accepted x m) = Unit {0}
 RowPlaced (refused e m) = Between 10 40 e
 
+-- The same without 25: of an answer under an allowance that suffices.
+abbrev pub Unspent : RowAnswer → Type 0
+Unspent (accepted x m) = Unit {0}
+Unspent (refused e m) = Between 10 23 e ⊎ Between 30 40 e
+
 abbrev Placed : Outcome → Type 0
 Placed (untouched e) = Between 1 6 e
 Placed (read a) = RowPlaced a
@@ -83,55 +87,62 @@ Placed (read a) = RowPlaced a
 -- A wider range.
 wider : (low high low′ high′ : ℕ) → low′ ≤ low → high ≤ high′ → (e : TypeNameError) → Between low high e → Between low′ high′ e
 wider low high low′ high′ p q e t =
-    let u = and-yes (leb low (refusalOf e .number)) (leb (refusalOf e .number) high) t in
+    let u = bounds low high e t in
     both (leb low′ (refusalOf e .number)) (leb (refusalOf e .number) high′)
-    (le→leb low′ (refusalOf e .number) (omega (arith, leb→le low (refusalOf e .number) (u .0))))
-    (le→leb (refusalOf e .number) high′ (omega (arith, leb→le (refusalOf e .number) high (u .1))))
+    (le→leb low′ (refusalOf e .number) (omega (arith, u .0)))
+    (le→leb (refusalOf e .number) high′ (omega (arith, u .1)))
   where
     both : (a b : Bool) → T a → T b → T (a && b)
     both true true u v = tt
 
-limited-placed : (allowance : ℕ) (a : RowAnswer) → RowPlaced a → RowPlaced (limited allowance a)
+limited-placed : (allowance : ℕ) (a : RowAnswer) → Unspent a → RowPlaced (limited allowance a)
 unfolding limited
 limited-placed allowance (accepted x m) p = by-if RowPlaced (leb m allowance) (λ _. tt) (λ _. tt)
-limited-placed allowance (refused e m) p = by-if RowPlaced (leb m allowance) (λ _. p) (λ _. tt)
+limited-placed allowance (refused e m) p = by-if RowPlaced (leb m allowance) (λ _. in-table p) (λ _. tt)
+  where
+    in-table : Between 10 23 e ⊎ Between 30 40 e → Between 10 40 e
+    in-table (inl q) = wider 10 23 10 40 (omega arith) (omega arith) e q
+    in-table (inr q) = wider 30 40 10 40 (omega arith) (omega arith) e q
 
 module _ (language standard flag : ℕ) (kinds words : List ℕ) where
-  structure-placed : (x : Nodes) (m : ℕ) (l : Lack) → RowPlaced (after-structure language standard flag kinds words x m l)
+  structure-unspent : (x : Nodes) (m : ℕ) (l : Lack) → Unspent (after-structure language standard flag kinds words x m l)
   unfolding after-structure
-  structure-placed x m Nothing = tt
-  structure-placed x m (Lacks f) = tt
+  structure-unspent x m Nothing = tt
+  structure-unspent x m (Lacks f) = inr tt
 
-  reading-placed : (x : Nodes) (m : ℕ) (s : Said) → RowPlaced (after-reading language standard flag kinds words x m s)
+  reading-unspent : (x : Nodes) (m : ℕ) (s : Said) → Unspent (after-reading language standard flag kinds words x m s)
   unfolding after-reading
-  reading-placed x m (holds n) = structure-placed x (m + n) (missing-feature language standard kinds words)
-  reading-placed x m (fails n) = tt
+  reading-unspent x m (holds n) = structure-unspent x (m + n) (missing-feature language standard kinds words)
+  reading-unspent x m (fails n) = inr tt
 
-  fault-placed : (e : Fault) → FaultNumbered e → Between 10 40 (refusal-of e)
+  fault-unspent : (e : Fault) (m : ℕ) → FaultNumbered e → Unspent (refused (refusal-of e) m)
   unfolding refusal-of
-  fault-placed (refusal e) p = wider 20 22 10 40 (omega arith) (omega arith) e p
-  fault-placed no-list p = tt
+  fault-unspent (refusal e) m p = inl (wider 20 22 10 23 (omega arith) (omega arith) e p)
+  fault-unspent no-list m p = inl tt
 
-  by-whole : (b : Bool) (a : RowAnswer) (m : ℕ) → RowPlaced a → RowPlaced (elim b as (λ _. RowAnswer) [ true ↦ a | false ↦ refused UnexpectedTokenAfterTypeName m ])
+  by-whole : (b : Bool) (a : RowAnswer) (m : ℕ) → Unspent a → Unspent (elim b as (λ _. RowAnswer) [ true ↦ a | false ↦ refused UnexpectedTokenAfterTypeName m ])
   by-whole true a m p = p
-  by-whole false a m p = tt
+  by-whole false a m p = inl tt
 
-  prescan-placed : (g : Got) → Read.Numbered g → RowPlaced (after-prescan language standard flag kinds words g)
+  prescan-unspent : (g : Got) → Read.Numbered g → Unspent (after-prescan language standard flag kinds words g)
   unfolding after-prescan
-  prescan-placed (bad e m) p = fault-placed e p
-  prescan-placed (got x at half m) p =
+  prescan-unspent (bad e m) p = fault-unspent e m p
+  prescan-unspent (got x at half m) p =
       by-whole (whole-row language standard flag kinds words at half) (after-reading language standard flag kinds words x m (structure-of language standard flag kinds words x)) m
-      (reading-placed x m (structure-of language standard flag kinds words x))
+      (reading-unspent x m (structure-of language standard flag kinds words x))
 
-  from-placed : (r : Scanned) → Numbered.Numbered r → RowPlaced (from-prescan language standard flag kinds words r)
+  from-unspent : (r : Scanned) → Numbered.Numbered r → Unspent (from-prescan language standard flag kinds words r)
   unfolding from-prescan
-  from-placed (Prescan.refused e) p = wider 10 18 10 40 (omega arith) (omega arith) e p
-  from-placed (passed s) p = prescan-placed (reading (eqb language Cpp) kinds) (reading-numbered (eqb language Cpp) kinds)
+  from-unspent (Prescan.refused e) p = inl (wider 10 18 10 23 (omega arith) (omega arith) e p)
+  from-unspent (passed s) p = prescan-unspent (reading (eqb language Cpp) kinds) (reading-numbered (eqb language Cpp) kinds)
+
+  pub unlimited-unspent : Unspent (unlimited language standard flag kinds words)
+  unfolding unlimited
+  unlimited-unspent = from-unspent (prescan language kinds) (prescan-numbered language kinds)
 
   row-placed : (allowance : ℕ) → RowPlaced (answerOf language standard flag kinds words allowance)
-  unfolding answerOf unlimited
-  row-placed allowance =
-      limited-placed allowance (from-prescan language standard flag kinds words (prescan language kinds)) (from-placed (prescan language kinds) (prescan-numbered language kinds))
+  unfolding answerOf
+  row-placed allowance = limited-placed allowance (unlimited language standard flag kinds words) unlimited-unspent
 
 of-row-placed : (h : Head) (room : ℕ) (ts : List RowToken) → Placed (of-row h room ts)
 unfolding of-row
@@ -160,21 +171,6 @@ pub record RefusedBuffer (before after : List ℕ) (e : TypeNameError) : Type 0 
   pub kept : refusalOf e .number ≤ 6 → after ≡ before
   pub zeroed : 6 < refusalOf e .number → after ≡ replicate (length before) 0
 
-low : (e : TypeNameError) → Between 1 6 e → refusalOf e .number ≤ 6
-low e t = leb→le (refusalOf e .number) 6 (and-yes (leb 1 (refusalOf e .number)) (leb (refusalOf e .number) 6) t .1)
-
-high : (e : TypeNameError) → Between 10 40 e → 6 < refusalOf e .number
-high e t = omega (arith, leb→le 10 (refusalOf e .number) (and-yes (leb 10 (refusalOf e .number)) (leb (refusalOf e .number) 40) t .0))
-
--- The refusal's number in an answer, 0 if it is accepted.
-abbrev number-in : Answer → ℕ
-number-in (Accepted nodes m) = 0
-number-in (Refused e m) = refusalOf e .number
-
-abbrev is-refused : Answer → ℕ
-is-refused (Accepted nodes m) = 0
-is-refused (Refused e m) = 1
-
 none-less : (n : ℕ) → replicate {A = ℕ} (n - 0) 0 ≡ replicate n 0
 none-less n =
     let same : n - 0 ≡ n = omega arith in
@@ -184,13 +180,13 @@ buffer-of : (before : List ℕ) (o : Outcome) → Placed o → (e : TypeNameErro
 unfolding answer-in buffer-in filled
 buffer-of before (untouched e′) p e m q =
     let same : refusalOf e′ .number ≡ refusalOf e .number = ap number-in q in
-    record { kept = λ _. refl; zeroed = λ h. absurd (omega (arith, same, low e′ p, h)) }
+    record { kept = λ _. refl; zeroed = λ h. absurd (omega (arith, same, bounds 1 6 e′ p, h)) }
 buffer-of before (read (accepted x n)) p e m q =
     let clash : _≡_ {A = ℕ} 0 1 = ap is-refused q in
     absurd (omega (arith, clash))
 buffer-of before (read (refused e′ n)) p e m q =
     let same : refusalOf e′ .number ≡ refusalOf e .number = ap number-in q in
-    record { kept = λ h. absurd (omega (arith, same, high e′ p, h)); zeroed = λ _. none-less (length before) }
+    record { kept = λ h. absurd (omega (arith, same, bounds 10 40 e′ p, h)); zeroed = λ _. none-less (length before) }
 
 pub refused-buffer : (file before : List ℕ) (e : TypeNameError) (m : ℕ) → answer file (length before) ≡ Refused e m → RefusedBuffer before (final-buffer file before) e
 unfolding answer final-buffer

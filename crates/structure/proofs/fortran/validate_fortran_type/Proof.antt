@@ -7,18 +7,19 @@ use borrow.Author.Tests.{not-true, not-false}
 use Rattle.structure.specs.FortranTypes.{fortran-end}
 use Rattle.structure.specs.Laws.Walks.{walk-formed, walk-further, walk-fits, walk-below, walk-after}
 use Rattle.structure.specs.Laws.Runs.{entry-spent, head-fails, head-holds, run-start, run-end, run-stop, run-on, run-fails, run-spent, run-inside}
+use Rattle.structure.specs.Laws.Asked.{asked, fortran-asks, selectors-asked}
 use Rattle.structure.specs.Laws.Checks.{InFortran, fortran-entry, fortran-moved}
 use Rattle.structure.proofs.fortran.validate_fortran_type.Statement.{statement}
 use Rattle.structure.proofs.fortran.validate_fortran_type.Tie as tie
 use Rattle.structure.proofs.fortran.validate_fortran_type.Reads as reads
 use Rattle.structure.proofs.fortran.validate_fortran_type.Lts as lts
-use Rattle.structure.proofs.checks.test.Reads as test-reads
 use Rattle.structure.proofs.fortran.fortran_node.Reads as fortran-node-reads
 use Rattle.structure.proofs.fortran.validate_fortran_type_head.Reads as validate-fortran-type-head-reads
 use Rattle.structure.proofs.moves.plain.Reads as plain-reads
 use Rattle.structure.proofs.nodes.is_single_token.Reads as is-single-token-reads
 use Rattle.structure.proofs.nodes.node_end.Reads as node-end-reads
 use Rattle.structure.proofs.nodes.shape_at.Reads as shape-at-reads
+use Rattle.structure.proofs.selectors.validate_fortran_selector_list.Reads as validate-fortran-selector-list-reads
 
 abbrev Inv-loop : tie.InvT-loop
 Inv-loop language tree kinds words from to allowed left₀ st₀ at₀ left st at = InFortran language tree kinds words from to allowed left st at
@@ -68,11 +69,12 @@ enum-known-act-2 c = omega arith
 enum-known-act-3 : tie.Need-enum-known-act-3 Inv-loop μ-loop
 enum-known-act-3 c = omega arith
 
-add-test : tie.Need-add-test Inv-loop μ-loop
-add-test c = omega (arith, c .before .before .before .before .before .before .before .before .loop .inv .walk .few)
+add-validate-fortran-selector-list : tie.Need-add-validate-fortran-selector-list Inv-loop μ-loop
+add-validate-fortran-selector-list c = omega (arith, c .before .before .before .before .before .before .before .before .loop .inv .walk .few)
 
-test-requires : tie.Need-test-requires Inv-loop μ-loop
-test-requires c κs = walk-below (c .before .before .before .before .before .before .before .before .loop .inv .walk) (omega arith) (c .before .before .before .before .before .node-end .ensures) (c .before .before .before .before .before .before .before .before .before .before .before .before .before .before .before .pre .worded)
+validate-fortran-selector-list-requires :
+    tie.Need-validate-fortran-selector-list-requires Inv-loop μ-loop
+validate-fortran-selector-list-requires c κs = walk-below (c .before .before .before .before .before .before .before .before .loop .inv .walk) (omega arith) (c .before .before .before .before .before .node-end .ensures) (c .before .before .before .before .before .before .before .before .before .before .before .before .before .before .before .pre .worded)
 
 enum-known-said : tie.Need-enum-known-said Inv-loop μ-loop
 enum-known-said c = omega arith
@@ -81,13 +83,13 @@ enum-known-said-2 : tie.Need-enum-known-said-2 Inv-loop μ-loop
 enum-known-said-2 c = omega arith
 
 returns-4 : tie.Need-returns-4 Inv-loop μ-loop
-returns-4 c = run-fails (c .before .before .before .before .before .before .before .before .before .before .before .before .loop .inv) (omega arith) (c .before .before .before .before .before .before .before .before .before .node-end .ensures) (fortran-moved (c .before .before .before .before .before .before .before .before .before .before .before .before .loop .inv) (omega arith) (c .before .before .before .before .before .before .before .before .before .before .shape-at .ensures) (c .before .before .before .before .before .before .before .before .before .node-end .ensures) (c .before .before .before .before .before .before .before .before .is-single-token .ensures) (c .before .before .before .before .before .before .before .fortran-node .ensures) (c .before .before .before .before .before .act3 .given .1)) (c .before .before .before .test .ensures) (c .before .said2 .given .1)
+returns-4 c = run-fails (c .before .before .before .before .before .before .before .before .before .before .before .before .loop .inv) (omega arith) (c .before .before .before .before .before .before .before .before .before .node-end .ensures) (fortran-moved (c .before .before .before .before .before .before .before .before .before .before .before .before .loop .inv) (omega arith) (c .before .before .before .before .before .before .before .before .before .before .shape-at .ensures) (c .before .before .before .before .before .before .before .before .before .node-end .ensures) (c .before .before .before .before .before .before .before .before .is-single-token .ensures) (c .before .before .before .before .before .before .before .fortran-node .ensures) (c .before .before .before .before .before .act3 .given .1)) (selectors-asked _ _ (asked (fortran-asks _ _ _) (fortran-moved (c .before .before .before .before .before .before .before .before .before .before .before .before .loop .inv) (omega arith) (c .before .before .before .before .before .before .before .before .before .before .shape-at .ensures) (c .before .before .before .before .before .before .before .before .before .node-end .ensures) (c .before .before .before .before .before .before .before .before .is-single-token .ensures) (c .before .before .before .before .before .before .before .fortran-node .ensures) (c .before .before .before .before .before .act3 .given .1))) (c .before .before .before .validate-fortran-selector-list .ensures)) (c .before .said2 .given .1)
 
 enum-told : tie.Need-enum-told Inv-loop μ-loop
 enum-told c = omega arith
 
 returns-5 : tie.Need-returns-5 Inv-loop μ-loop
-returns-5 c = run-spent (c .before .before .before .before .before .before .before .before .before .before .before .loop .inv) (omega arith) (c .before .before .before .before .before .before .before .before .node-end .ensures) (fortran-moved (c .before .before .before .before .before .before .before .before .before .before .before .loop .inv) (omega arith) (c .before .before .before .before .before .before .before .before .before .shape-at .ensures) (c .before .before .before .before .before .before .before .before .node-end .ensures) (c .before .before .before .before .before .before .before .is-single-token .ensures) (c .before .before .before .before .before .before .fortran-node .ensures) (c .before .before .before .before .act3 .given .1)) (c .before .before .test .ensures) (c .enum-told .given .1)
+returns-5 c = run-spent (c .before .before .before .before .before .before .before .before .before .before .before .loop .inv) (omega arith) (c .before .before .before .before .before .before .before .before .node-end .ensures) (fortran-moved (c .before .before .before .before .before .before .before .before .before .before .before .loop .inv) (omega arith) (c .before .before .before .before .before .before .before .before .before .shape-at .ensures) (c .before .before .before .before .before .before .before .before .node-end .ensures) (c .before .before .before .before .before .before .before .is-single-token .ensures) (c .before .before .before .before .before .before .fortran-node .ensures) (c .before .before .before .before .act3 .given .1)) (selectors-asked _ _ (asked (fortran-asks _ _ _) (fortran-moved (c .before .before .before .before .before .before .before .before .before .before .before .loop .inv) (omega arith) (c .before .before .before .before .before .before .before .before .before .shape-at .ensures) (c .before .before .before .before .before .before .before .before .node-end .ensures) (c .before .before .before .before .before .before .before .is-single-token .ensures) (c .before .before .before .before .before .before .fortran-node .ensures) (c .before .before .before .before .act3 .given .1))) (c .before .before .validate-fortran-selector-list .ensures)) (c .enum-told .given .1)
 
 loop-less : tie.Need-loop-less Inv-loop μ-loop
 loop-less c = omega (arith, walk-further (c .before .before .before .before .before .before .before .before .loop .inv .walk) (omega arith) (c .before .before .before .before .before .node-end .ensures), walk-fits (c .before .before .before .before .before .before .before .before .loop .inv .walk) (omega arith) (c .before .before .before .before .before .node-end .ensures))
@@ -99,7 +101,7 @@ loop-less-2 : tie.Need-loop-less-2 Inv-loop μ-loop
 loop-less-2 c = omega (arith, walk-further (c .before .before .before .before .before .before .before .before .before .before .before .before .loop .inv .walk) (omega arith) (c .before .before .before .before .before .before .before .before .before .node-end .ensures), walk-fits (c .before .before .before .before .before .before .before .before .before .before .before .before .loop .inv .walk) (omega arith) (c .before .before .before .before .before .before .before .before .before .node-end .ensures))
 
 loop-again-2 : tie.Need-loop-again-2 Inv-loop μ-loop
-loop-again-2 c = run-inside (c .before .before .before .before .before .before .before .before .before .before .before .before .loop .inv) (omega arith) (c .before .before .before .before .before .before .before .before .before .node-end .ensures) (fortran-moved (c .before .before .before .before .before .before .before .before .before .before .before .before .loop .inv) (omega arith) (c .before .before .before .before .before .before .before .before .before .before .shape-at .ensures) (c .before .before .before .before .before .before .before .before .before .node-end .ensures) (c .before .before .before .before .before .before .before .before .is-single-token .ensures) (c .before .before .before .before .before .before .before .fortran-node .ensures) (c .before .before .before .before .before .act3 .given .1)) (c .before .before .before .test .ensures) (c .before .said .given .1) tt
+loop-again-2 c = run-inside (c .before .before .before .before .before .before .before .before .before .before .before .before .loop .inv) (omega arith) (c .before .before .before .before .before .before .before .before .before .node-end .ensures) (fortran-moved (c .before .before .before .before .before .before .before .before .before .before .before .before .loop .inv) (omega arith) (c .before .before .before .before .before .before .before .before .before .before .shape-at .ensures) (c .before .before .before .before .before .before .before .before .before .node-end .ensures) (c .before .before .before .before .before .before .before .before .is-single-token .ensures) (c .before .before .before .before .before .before .before .fortran-node .ensures) (c .before .before .before .before .before .act3 .given .1)) (selectors-asked _ _ (asked (fortran-asks _ _ _) (fortran-moved (c .before .before .before .before .before .before .before .before .before .before .before .before .loop .inv) (omega arith) (c .before .before .before .before .before .before .before .before .before .before .shape-at .ensures) (c .before .before .before .before .before .before .before .before .before .node-end .ensures) (c .before .before .before .before .before .before .before .before .is-single-token .ensures) (c .before .before .before .before .before .before .before .fortran-node .ensures) (c .before .before .before .before .before .act3 .given .1))) (c .before .before .before .validate-fortran-selector-list .ensures)) (c .before .said .given .1) tt
 
 plain-requires-2 : tie.Need-plain-requires-2 Inv-loop μ-loop
 plain-requires-2 c κs = omega arith
@@ -128,8 +130,8 @@ validate-fortran-type-spec =
     returns-3
     enum-known-act-2
     enum-known-act-3
-    add-test
-    test-requires
+    add-validate-fortran-selector-list
+    validate-fortran-selector-list-requires
     enum-known-said
     enum-known-said-2
     returns-4

@@ -9,15 +9,13 @@ use borrow.Author.Tests.{not-true, not-false}
 use Rattle.structure.specs.Moves.{arguments}
 use Rattle.structure.specs.Declarators.{type-end, declarator-end}
 use Rattle.structure.specs.Structure.{checked, test, validate-cpp-template-argument, validate-parameter, validate-parameter-type-list}
-use Rattle.structure.specs.Structure.{validate-fortran-selector, validate-fortran-selector-value, validate-fortran-selector-list}
-use Rattle.structure.specs.Laws.Commas.{shaped-range, formed-next}
 use Rattle.structure.specs.Laws.Walks.{walk-start, walk-formed, walk-fails, walk-spent, walk-holds, walk-further, walk-fits, walk-below, walk-after}
 use Rattle.structure.specs.Laws.Runs.{entry-spent, entry, head-fails, head-holds, run-start, run-end, run-stop, run-on, run-fails, run-spent, run-inside}
 use Rattle.structure.specs.Laws.Checks.{InType, InDeclarator, InExpression, type-entry, declarator-entry, expression-entry, no-word-before, type-moved}
 use Rattle.structure.specs.Laws.Checks.{declarator-moved, expression-moved, waits-on, waits-inside}
-use Rattle.structure.specs.Laws.Inside.{empty-of, full-of, no-node, some-node, no-bound, bound-of, value-of, no-list, list-of, by-name, either-held}
-use Rattle.structure.specs.Laws.Inside.{either-else, both-failed, both-then, first-holds, first-spent, then-second, told, inside-declarator, group-declarator}
-use Rattle.structure.specs.Laws.Inside.{group-parameters, selector-value, selector-name, selector-without, selector-with, parameters-start, selectors-start}
+use Rattle.structure.specs.Laws.Asked.{asked, type-asks, declarator-asks, expression-asks, not-selectors}
+use Rattle.structure.specs.Laws.Inside.{empty-of, full-of, no-node, some-node, no-bound, bound-of, by-name, either-held, either-else, both-failed, both-then}
+use Rattle.structure.specs.Laws.Inside.{first-holds, first-spent, then-second, told, inside-declarator, group-declarator, group-parameters, parameters-start}
 use Rattle.structure.specs.Laws.Parts.{InParts, InArguments, parts-past, parts-fit, parts-ready, parts-comma, parts-turn, parts-last, parts-next, arguments-end}
 use Rattle.structure.specs.Laws.Parts.{arguments-turn}
 use Prim.Native.Nat.{ℕ, _<_}
@@ -25,40 +23,31 @@ use borrow.Fn.Kinds.{In}
 use borrow.Fn.PlainCycle.{Measures, is, falls, and}
 use Rattle.structure.proofs.checks.arguments.Reads as arguments
 use Rattle.structure.proofs.checks.arguments.Kinds as arguments-kinds
-use Rattle.structure.proofs.checks.+arguments+parameter+selector+test+type_or_expression+validate_abstract_declarator+validate_c_family_type+validate_cpp_template_argument+validate_expression+validate_fortran_selector_list+validate_fortran_selector_value+validate_parameter_type_list.Lts-arguments as arguments-lts
+use Rattle.structure.proofs.checks.+arguments+either+parameter+test+validate_abstract_declarator+validate_c_family_type+validate_cpp_template_argument+validate_expression+validate_parameter_type_list.Lts-arguments as arguments-lts
+use Rattle.structure.proofs.checks.either.Reads as either
+use Rattle.structure.proofs.checks.either.Kinds as either-kinds
+use Rattle.structure.proofs.checks.+arguments+either+parameter+test+validate_abstract_declarator+validate_c_family_type+validate_cpp_template_argument+validate_expression+validate_parameter_type_list.Lts-either as either-lts
 use Rattle.structure.proofs.checks.parameter.Reads as parameter
 use Rattle.structure.proofs.checks.parameter.Kinds as parameter-kinds
-use Rattle.structure.proofs.checks.+arguments+parameter+selector+test+type_or_expression+validate_abstract_declarator+validate_c_family_type+validate_cpp_template_argument+validate_expression+validate_fortran_selector_list+validate_fortran_selector_value+validate_parameter_type_list.Lts-parameter as parameter-lts
-use Rattle.structure.proofs.checks.selector.Reads as selector
-use Rattle.structure.proofs.checks.selector.Kinds as selector-kinds
-use Rattle.structure.proofs.checks.+arguments+parameter+selector+test+type_or_expression+validate_abstract_declarator+validate_c_family_type+validate_cpp_template_argument+validate_expression+validate_fortran_selector_list+validate_fortran_selector_value+validate_parameter_type_list.Lts-selector as selector-lts
+use Rattle.structure.proofs.checks.+arguments+either+parameter+test+validate_abstract_declarator+validate_c_family_type+validate_cpp_template_argument+validate_expression+validate_parameter_type_list.Lts-parameter as parameter-lts
 use Rattle.structure.proofs.checks.test.Reads as test
 use Rattle.structure.proofs.checks.test.Kinds as test-kinds
-use Rattle.structure.proofs.checks.+arguments+parameter+selector+test+type_or_expression+validate_abstract_declarator+validate_c_family_type+validate_cpp_template_argument+validate_expression+validate_fortran_selector_list+validate_fortran_selector_value+validate_parameter_type_list.Lts-test as test-lts
-use Rattle.structure.proofs.checks.type_or_expression.Reads as type-or-expression
-use Rattle.structure.proofs.checks.type_or_expression.Kinds as type-or-expression-kinds
-use Rattle.structure.proofs.checks.+arguments+parameter+selector+test+type_or_expression+validate_abstract_declarator+validate_c_family_type+validate_cpp_template_argument+validate_expression+validate_fortran_selector_list+validate_fortran_selector_value+validate_parameter_type_list.Lts-type_or_expression as type-or-expression-lts
+use Rattle.structure.proofs.checks.+arguments+either+parameter+test+validate_abstract_declarator+validate_c_family_type+validate_cpp_template_argument+validate_expression+validate_parameter_type_list.Lts-test as test-lts
 use Rattle.structure.proofs.checks.validate_abstract_declarator.Reads as validate-abstract-declarator
 use Rattle.structure.proofs.checks.validate_abstract_declarator.Kinds as validate-abstract-declarator-kinds
-use Rattle.structure.proofs.checks.+arguments+parameter+selector+test+type_or_expression+validate_abstract_declarator+validate_c_family_type+validate_cpp_template_argument+validate_expression+validate_fortran_selector_list+validate_fortran_selector_value+validate_parameter_type_list.Lts-validate_abstract_declarator as validate-abstract-declarator-lts
+use Rattle.structure.proofs.checks.+arguments+either+parameter+test+validate_abstract_declarator+validate_c_family_type+validate_cpp_template_argument+validate_expression+validate_parameter_type_list.Lts-validate_abstract_declarator as validate-abstract-declarator-lts
 use Rattle.structure.proofs.checks.validate_c_family_type.Reads as validate-c-family-type
 use Rattle.structure.proofs.checks.validate_c_family_type.Kinds as validate-c-family-type-kinds
-use Rattle.structure.proofs.checks.+arguments+parameter+selector+test+type_or_expression+validate_abstract_declarator+validate_c_family_type+validate_cpp_template_argument+validate_expression+validate_fortran_selector_list+validate_fortran_selector_value+validate_parameter_type_list.Lts-validate_c_family_type as validate-c-family-type-lts
+use Rattle.structure.proofs.checks.+arguments+either+parameter+test+validate_abstract_declarator+validate_c_family_type+validate_cpp_template_argument+validate_expression+validate_parameter_type_list.Lts-validate_c_family_type as validate-c-family-type-lts
 use Rattle.structure.proofs.checks.validate_cpp_template_argument.Reads as validate-cpp-template-argument
 use Rattle.structure.proofs.checks.validate_cpp_template_argument.Kinds as validate-cpp-template-argument-kinds
-use Rattle.structure.proofs.checks.+arguments+parameter+selector+test+type_or_expression+validate_abstract_declarator+validate_c_family_type+validate_cpp_template_argument+validate_expression+validate_fortran_selector_list+validate_fortran_selector_value+validate_parameter_type_list.Lts-validate_cpp_template_argument as validate-cpp-template-argument-lts
+use Rattle.structure.proofs.checks.+arguments+either+parameter+test+validate_abstract_declarator+validate_c_family_type+validate_cpp_template_argument+validate_expression+validate_parameter_type_list.Lts-validate_cpp_template_argument as validate-cpp-template-argument-lts
 use Rattle.structure.proofs.checks.validate_expression.Reads as validate-expression
 use Rattle.structure.proofs.checks.validate_expression.Kinds as validate-expression-kinds
-use Rattle.structure.proofs.checks.+arguments+parameter+selector+test+type_or_expression+validate_abstract_declarator+validate_c_family_type+validate_cpp_template_argument+validate_expression+validate_fortran_selector_list+validate_fortran_selector_value+validate_parameter_type_list.Lts-validate_expression as validate-expression-lts
-use Rattle.structure.proofs.checks.validate_fortran_selector_list.Reads as validate-fortran-selector-list
-use Rattle.structure.proofs.checks.validate_fortran_selector_list.Kinds as validate-fortran-selector-list-kinds
-use Rattle.structure.proofs.checks.+arguments+parameter+selector+test+type_or_expression+validate_abstract_declarator+validate_c_family_type+validate_cpp_template_argument+validate_expression+validate_fortran_selector_list+validate_fortran_selector_value+validate_parameter_type_list.Lts-validate_fortran_selector_list as validate-fortran-selector-list-lts
-use Rattle.structure.proofs.checks.validate_fortran_selector_value.Reads as validate-fortran-selector-value
-use Rattle.structure.proofs.checks.validate_fortran_selector_value.Kinds as validate-fortran-selector-value-kinds
-use Rattle.structure.proofs.checks.+arguments+parameter+selector+test+type_or_expression+validate_abstract_declarator+validate_c_family_type+validate_cpp_template_argument+validate_expression+validate_fortran_selector_list+validate_fortran_selector_value+validate_parameter_type_list.Lts-validate_fortran_selector_value as validate-fortran-selector-value-lts
+use Rattle.structure.proofs.checks.+arguments+either+parameter+test+validate_abstract_declarator+validate_c_family_type+validate_cpp_template_argument+validate_expression+validate_parameter_type_list.Lts-validate_expression as validate-expression-lts
 use Rattle.structure.proofs.checks.validate_parameter_type_list.Reads as validate-parameter-type-list
 use Rattle.structure.proofs.checks.validate_parameter_type_list.Kinds as validate-parameter-type-list-kinds
-use Rattle.structure.proofs.checks.+arguments+parameter+selector+test+type_or_expression+validate_abstract_declarator+validate_c_family_type+validate_cpp_template_argument+validate_expression+validate_fortran_selector_list+validate_fortran_selector_value+validate_parameter_type_list.Lts-validate_parameter_type_list as validate-parameter-type-list-lts
+use Rattle.structure.proofs.checks.+arguments+either+parameter+test+validate_abstract_declarator+validate_c_family_type+validate_cpp_template_argument+validate_expression+validate_parameter_type_list.Lts-validate_parameter_type_list as validate-parameter-type-list-lts
 use Rattle.structure.proofs.expressions.expression_end.Reads as expression-end-reads
 use Rattle.structure.proofs.expressions.expression_node.Reads as expression-node-reads
 use Rattle.structure.proofs.moves.plain.Reads as plain-reads
@@ -73,27 +62,24 @@ use Rattle.structure.proofs.specifiers.exact_word.Reads as exact-word-r
 use Rattle.structure.proofs.specifiers.validate_c_decl_specifiers.Reads as validate-c-decl-specifiers-reads
 use Rattle.structure.proofs.tables.abstract_declarator_node.Reads as abstract-declarator-node-reads
 use Rattle.structure.proofs.tables.c_family_node.Reads as c-family-node-reads
-use Rattle.structure.proofs.checks.+arguments+parameter+selector+test+type_or_expression+validate_abstract_declarator+validate_c_family_type+validate_cpp_template_argument+validate_expression+validate_fortran_selector_list+validate_fortran_selector_value+validate_parameter_type_list.{
+use Rattle.structure.proofs.checks.+arguments+either+parameter+test+validate_abstract_declarator+validate_c_family_type+validate_cpp_template_argument+validate_expression+validate_parameter_type_list.{
   statement,
 }
-use Rattle.structure.proofs.checks.+arguments+parameter+selector+test+type_or_expression+validate_abstract_declarator+validate_c_family_type+validate_cpp_template_argument+validate_expression+validate_fortran_selector_list+validate_fortran_selector_value+validate_parameter_type_list.Tie.{
+use Rattle.structure.proofs.checks.+arguments+either+parameter+test+validate_abstract_declarator+validate_c_family_type+validate_cpp_template_argument+validate_expression+validate_parameter_type_list.Tie.{
   close,
 }
 
 abbrev μ-arguments : Measures 3 arguments-kinds.ps ℕ
 μ-arguments κs a = 8 * (a .1 .1 .1 .1 .1 .0 - a .1 .1 .1 .1 .0) + 3
 
+abbrev μ-either : Measures 3 either-kinds.ps ℕ
+μ-either κs a = 8 * (a .1 .1 .1 .1 .1 .0 - a .1 .1 .1 .1 .0) + 1
+
 abbrev μ-parameter : Measures 3 parameter-kinds.ps ℕ
 μ-parameter κs a = 8 * (a .1 .1 .1 .1 .1 .0 - a .1 .1 .1 .1 .0) + 1
 
-abbrev μ-selector : Measures 3 selector-kinds.ps ℕ
-μ-selector κs a = 8 * (a .1 .1 .1 .1 .1 .0 - a .1 .1 .1 .1 .0) + 2
-
 abbrev μ-test : Measures 3 test-kinds.ps ℕ
 μ-test κs a = 8 * (a .1 .1 .1 .1 .1 .1 .0 - a .1 .1 .1 .1 .1 .0) + 5
-
-abbrev μ-type-or-expression : Measures 3 type-or-expression-kinds.ps ℕ
-μ-type-or-expression κs a = 8 * (a .1 .1 .1 .1 .1 .0 - a .1 .1 .1 .1 .0) + 1
 
 abbrev μ-validate-abstract-declarator : Measures 3 validate-abstract-declarator-kinds.ps ℕ
 μ-validate-abstract-declarator κs a = 8 * (a .1 .1 .1 .1 .1 .0 - a .1 .1 .1 .1 .0)
@@ -107,12 +93,6 @@ abbrev μ-validate-cpp-template-argument : Measures 3 validate-cpp-template-argu
 abbrev μ-validate-expression : Measures 3 validate-expression-kinds.ps ℕ
 μ-validate-expression κs a = 8 * (a .1 .1 .1 .1 .1 .0 - a .1 .1 .1 .1 .0)
 
-abbrev μ-validate-fortran-selector-list : Measures 3 validate-fortran-selector-list-kinds.ps ℕ
-μ-validate-fortran-selector-list κs a = 8 * (a .1 .1 .1 .1 .1 .0 - a .1 .1 .1 .1 .0) + 3
-
-abbrev μ-validate-fortran-selector-value : Measures 3 validate-fortran-selector-value-kinds.ps ℕ
-μ-validate-fortran-selector-value κs a = 8 * (a .1 .1 .1 .1 .1 .0 - a .1 .1 .1 .1 .0) + 1
-
 abbrev μ-validate-parameter-type-list : Measures 3 validate-parameter-type-list-kinds.ps ℕ
 μ-validate-parameter-type-list κs a = 8 * (a .1 .1 .1 .1 .1 .0 - a .1 .1 .1 .1 .0) + 3
 
@@ -123,6 +103,12 @@ abbrev arguments-below : ℕ → In 3 arguments-kinds.ps
 arguments-below t =
     and 3 arguments-kinds.ps (falls 3 arguments-kinds.ps _<_ μ-arguments t) arguments.Pre
 
+abbrev either-at : ℕ → In 3 either-kinds.ps
+either-at t = and 3 either-kinds.ps (is 3 either-kinds.ps μ-either t) either.Pre
+
+abbrev either-below : ℕ → In 3 either-kinds.ps
+either-below t = and 3 either-kinds.ps (falls 3 either-kinds.ps _<_ μ-either t) either.Pre
+
 abbrev parameter-at : ℕ → In 3 parameter-kinds.ps
 parameter-at t = and 3 parameter-kinds.ps (is 3 parameter-kinds.ps μ-parameter t) parameter.Pre
 
@@ -130,34 +116,11 @@ abbrev parameter-below : ℕ → In 3 parameter-kinds.ps
 parameter-below t =
     and 3 parameter-kinds.ps (falls 3 parameter-kinds.ps _<_ μ-parameter t) parameter.Pre
 
-abbrev selector-at : ℕ → In 3 selector-kinds.ps
-selector-at t = and 3 selector-kinds.ps (is 3 selector-kinds.ps μ-selector t) selector.Pre
-
-abbrev selector-below : ℕ → In 3 selector-kinds.ps
-selector-below t =
-    and 3 selector-kinds.ps (falls 3 selector-kinds.ps _<_ μ-selector t) selector.Pre
-
 abbrev test-at : ℕ → In 3 test-kinds.ps
 test-at t = and 3 test-kinds.ps (is 3 test-kinds.ps μ-test t) test.Pre
 
 abbrev test-below : ℕ → In 3 test-kinds.ps
 test-below t = and 3 test-kinds.ps (falls 3 test-kinds.ps _<_ μ-test t) test.Pre
-
-abbrev type-or-expression-at : ℕ → In 3 type-or-expression-kinds.ps
-type-or-expression-at t =
-    and
-    3
-    type-or-expression-kinds.ps
-    (is 3 type-or-expression-kinds.ps μ-type-or-expression t)
-    type-or-expression.Pre
-
-abbrev type-or-expression-below : ℕ → In 3 type-or-expression-kinds.ps
-type-or-expression-below t =
-    and
-    3
-    type-or-expression-kinds.ps
-    (falls 3 type-or-expression-kinds.ps _<_ μ-type-or-expression t)
-    type-or-expression.Pre
 
 abbrev validate-abstract-declarator-at : ℕ → In 3 validate-abstract-declarator-kinds.ps
 validate-abstract-declarator-at t =
@@ -223,38 +186,6 @@ validate-expression-below t =
     (falls 3 validate-expression-kinds.ps _<_ μ-validate-expression t)
     validate-expression.Pre
 
-abbrev validate-fortran-selector-list-at : ℕ → In 3 validate-fortran-selector-list-kinds.ps
-validate-fortran-selector-list-at t =
-    and
-    3
-    validate-fortran-selector-list-kinds.ps
-    (is 3 validate-fortran-selector-list-kinds.ps μ-validate-fortran-selector-list t)
-    validate-fortran-selector-list.Pre
-
-abbrev validate-fortran-selector-list-below : ℕ → In 3 validate-fortran-selector-list-kinds.ps
-validate-fortran-selector-list-below t =
-    and
-    3
-    validate-fortran-selector-list-kinds.ps
-    (falls 3 validate-fortran-selector-list-kinds.ps _<_ μ-validate-fortran-selector-list t)
-    validate-fortran-selector-list.Pre
-
-abbrev validate-fortran-selector-value-at : ℕ → In 3 validate-fortran-selector-value-kinds.ps
-validate-fortran-selector-value-at t =
-    and
-    3
-    validate-fortran-selector-value-kinds.ps
-    (is 3 validate-fortran-selector-value-kinds.ps μ-validate-fortran-selector-value t)
-    validate-fortran-selector-value.Pre
-
-abbrev validate-fortran-selector-value-below : ℕ → In 3 validate-fortran-selector-value-kinds.ps
-validate-fortran-selector-value-below t =
-    and
-    3
-    validate-fortran-selector-value-kinds.ps
-    (falls 3 validate-fortran-selector-value-kinds.ps _<_ μ-validate-fortran-selector-value t)
-    validate-fortran-selector-value.Pre
-
 abbrev validate-parameter-type-list-at : ℕ → In 3 validate-parameter-type-list-kinds.ps
 validate-parameter-type-list-at t =
     and
@@ -319,6 +250,36 @@ arguments-loop-again t c = walk-holds (c .before .before .before .before .before
 arguments-returns-3 : (t : ℕ) → arguments-lts.Need-returns-3 (arguments-calls t) (arguments-at t) arguments.Post arguments-Inv-loop arguments-μ-loop
 arguments-returns-3 t c = arguments-end _ (c .before .loop .inv) (omega arith)
 
+abbrev either-calls : ℕ → either-lts.Claims
+either-calls t = (validate-c-family-type-below t, validate-c-family-type.Post, validate-expression-below t, validate-expression.Post)
+
+either-validate-c-family-type-requires : (t : ℕ) → either-lts.Need-validate-c-family-type-requires (either-calls t) (either-at t) either.Post
+either-validate-c-family-type-requires t c κs = (omega (arith, c .before .before .before .pre .0), c .before .before .before .pre .1)
+
+either-enum-known-said : (t : ℕ) → either-lts.Need-enum-known-said (either-calls t) (either-at t) either.Post
+either-enum-known-said t c = search needs
+
+either-returns : (t : ℕ) → either-lts.Need-returns (either-calls t) (either-at t) either.Post
+unfolding test
+either-returns t c = first-holds _ (λ x. refl) (c .before .before .before .validate-c-family-type .ensures) (c .before .said .given .1)
+
+either-enum-known-said-2 : (t : ℕ) → either-lts.Need-enum-known-said-2 (either-calls t) (either-at t) either.Post
+either-enum-known-said-2 t c = search needs
+
+either-validate-expression-requires : (t : ℕ) → either-lts.Need-validate-expression-requires (either-calls t) (either-at t) either.Post
+either-validate-expression-requires t c κs = (omega (arith, c .before .before .before .before .before .before .before .pre .0), c .before .before .before .before .before .before .before .pre .1)
+
+either-returns-2 : (t : ℕ) → either-lts.Need-returns-2 (either-calls t) (either-at t) either.Post
+unfolding test
+either-returns-2 t c = then-second _ (λ x. refl) (c .before .before .before .before .validate-c-family-type .ensures) (c .before .before .said2 .given .1) (c .validate-expression .ensures)
+
+either-enum-told : (t : ℕ) → either-lts.Need-enum-told (either-calls t) (either-at t) either.Post
+either-enum-told t c = search needs
+
+either-returns-3 : (t : ℕ) → either-lts.Need-returns-3 (either-calls t) (either-at t) either.Post
+unfolding test
+either-returns-3 t c = first-spent _ (λ x. refl) (c .before .before .validate-c-family-type .ensures) (c .enum-told .given .1)
+
 abbrev parameter-calls : ℕ → parameter-lts.Claims
 parameter-calls t = (is-ellipsis-reads.Asked, is-ellipsis-reads.Learnt, validate-c-family-type-below t, validate-c-family-type.Post)
 
@@ -337,56 +298,14 @@ parameter-returns-2 : (t : ℕ) → parameter-lts.Need-returns-2 (parameter-call
 unfolding validate-parameter
 parameter-returns-2 t c = either-else _ _ (λ x. refl) (λ x s. sym (c .before .if1 .left) ∙ c .before .before .is-ellipsis .ensures x s) (c .validate-c-family-type .ensures)
 
-abbrev selector-calls : ℕ → selector-lts.Claims
-selector-calls t = (shape-at-reads.Asked, shape-at-reads.Learnt, validate-fortran-selector-value-below t, validate-fortran-selector-value.Post, node-end-reads.Asked, node-end-reads.Learnt)
-
-selector-shape-at-requires : (t : ℕ) → selector-lts.Need-shape-at-requires (selector-calls t) (selector-at t) selector.Post
-selector-shape-at-requires t c κs = c .before .before .before .pre .1 .formed
-
-selector-validate-fortran-selector-value-requires :
-    (t : ℕ) → selector-lts.Need-validate-fortran-selector-value-requires (selector-calls t) (selector-at t) selector.Post
-selector-validate-fortran-selector-value-requires t c κs = (omega (arith, c .before .before .before .before .before .pre .0), c .before .before .before .before .before .pre .1)
-
-selector-returns : (t : ℕ) → selector-lts.Need-returns (selector-calls t) (selector-at t) selector.Post
-selector-returns t c = selector-value _ _ (c .before .before .shape-at .ensures) (c .before .if1 .taken) (c .validate-fortran-selector-value .ensures)
-
-selector-node-end-requires : (t : ℕ) → selector-lts.Need-node-end-requires (selector-calls t) (selector-at t) selector.Post
-selector-node-end-requires t c κs = (shaped-range (c .before .before .before .before .before .pre .1 .formed) (c .before .shape-at .ensures) (omega (arith, c .if1 .left)), c .before .before .before .before .before .pre .1 .formed)
-
-selector-shape-at-requires-2 : (t : ℕ) → selector-lts.Need-shape-at-requires-2 (selector-calls t) (selector-at t) selector.Post
-selector-shape-at-requires-2 t c κs = formed-next (c .before .before .before .before .before .before .pre .1 .formed) (shaped-range (c .before .before .before .before .before .before .pre .1 .formed) (c .before .before .shape-at .ensures) (omega (arith, c .before .if1 .left))) (c .node-end .ensures)
-
-selector-validate-fortran-selector-value-requires-2 :
-    (t : ℕ) → selector-lts.Need-validate-fortran-selector-value-requires-2 (selector-calls t) (selector-at t) selector.Post
-selector-validate-fortran-selector-value-requires-2 t c κs = (omega (arith, c .before .before .before .before .before .before .before .before .pre .0), c .before .before .before .before .before .before .before .before .pre .1)
-
-selector-returns-2 : (t : ℕ) → selector-lts.Need-returns-2 (selector-calls t) (selector-at t) selector.Post
-selector-returns-2 t c = selector-name _ _ (c .before .before .before .before .before .shape-at .ensures) (c .before .before .before .before .if1 .left) (shaped-range (c .before .before .before .before .before .before .before .before .before .pre .1 .formed) (c .before .before .before .before .before .shape-at .ensures) (omega (arith, c .before .before .before .before .if1 .left))) (c .before .before .before .node-end .ensures) (c .before .before .shape-at2 .ensures) (c .before .if2 .taken) (c .validate-fortran-selector-value2 .ensures)
-
-selector-node-end-requires-2 : (t : ℕ) → selector-lts.Need-node-end-requires-2 (selector-calls t) (selector-at t) selector.Post
-selector-node-end-requires-2 t c κs = (shaped-range (formed-next (c .before .before .before .before .before .before .before .before .pre .1 .formed) (shaped-range (c .before .before .before .before .before .before .before .before .pre .1 .formed) (c .before .before .before .before .shape-at .ensures) (omega (arith, c .before .before .before .if1 .left))) (c .before .before .node-end .ensures)) (c .before .shape-at2 .ensures) (omega (arith, c .if2 .left)), formed-next (c .before .before .before .before .before .before .before .before .pre .1 .formed) (shaped-range (c .before .before .before .before .before .before .before .before .pre .1 .formed) (c .before .before .before .before .shape-at .ensures) (omega (arith, c .before .before .before .if1 .left))) (c .before .before .node-end .ensures))
-
-selector-returns-3 : (t : ℕ) → selector-lts.Need-returns-3 (selector-calls t) (selector-at t) selector.Post
-selector-returns-3 t c = selector-without _ _ (c .before .before .before .before .before .before .shape-at .ensures) (c .before .before .before .before .before .if1 .left) (shaped-range (c .before .before .before .before .before .before .before .before .before .before .pre .1 .formed) (c .before .before .before .before .before .before .shape-at .ensures) (omega (arith, c .before .before .before .before .before .if1 .left))) (c .before .before .before .before .node-end .ensures) (c .before .before .before .shape-at2 .ensures) (c .before .before .if2 .left) (shaped-range (formed-next (c .before .before .before .before .before .before .before .before .before .before .pre .1 .formed) (shaped-range (c .before .before .before .before .before .before .before .before .before .before .pre .1 .formed) (c .before .before .before .before .before .before .shape-at .ensures) (omega (arith, c .before .before .before .before .before .if1 .left))) (c .before .before .before .before .node-end .ensures)) (c .before .before .before .shape-at2 .ensures) (omega (arith, c .before .before .if2 .left))) (c .before .node-end2 .ensures) (c .if3 .taken)
-
-selector-validate-fortran-selector-value-requires-3 :
-    (t : ℕ) → selector-lts.Need-validate-fortran-selector-value-requires-3 (selector-calls t) (selector-at t) selector.Post
-selector-validate-fortran-selector-value-requires-3 t c κs = (
-  omega (arith, c .before .before .before .before .node-end .ensures _ (c .before .before .before .before .before .before .before .before .before .before .pre .1 .formed .stands), c .before .node-end2 .ensures _ ((formed-next (c .before .before .before .before .before .before .before .before .before .before .pre .1 .formed) (shaped-range (c .before .before .before .before .before .before .before .before .before .before .pre .1 .formed) (c .before .before .before .before .before .before .shape-at .ensures) (omega (arith, c .before .before .before .before .before .if1 .left))) (c .before .before .before .before .node-end .ensures)) .stands), c .before .before .before .before .before .before .before .before .before .before .pre .0),
-  record { formed = formed-next (formed-next (c .before .before .before .before .before .before .before .before .before .before .pre .1 .formed) (shaped-range (c .before .before .before .before .before .before .before .before .before .before .pre .1 .formed) (c .before .before .before .before .before .before .shape-at .ensures) (omega (arith, c .before .before .before .before .before .if1 .left))) (c .before .before .before .before .node-end .ensures)) (shaped-range (formed-next (c .before .before .before .before .before .before .before .before .before .before .pre .1 .formed) (shaped-range (c .before .before .before .before .before .before .before .before .before .before .pre .1 .formed) (c .before .before .before .before .before .before .shape-at .ensures) (omega (arith, c .before .before .before .before .before .if1 .left))) (c .before .before .before .before .node-end .ensures)) (c .before .before .before .shape-at2 .ensures) (omega (arith, c .before .before .if2 .left))) (c .before .node-end2 .ensures); worded = c .before .before .before .before .before .before .before .before .before .before .pre .1 .worded },
-)
-
-selector-returns-4 : (t : ℕ) → selector-lts.Need-returns-4 (selector-calls t) (selector-at t) selector.Post
-selector-returns-4 t c = selector-with _ _ (c .before .before .before .before .before .before .before .shape-at .ensures) (c .before .before .before .before .before .before .if1 .left) (shaped-range (c .before .before .before .before .before .before .before .before .before .before .before .pre .1 .formed) (c .before .before .before .before .before .before .before .shape-at .ensures) (omega (arith, c .before .before .before .before .before .before .if1 .left))) (c .before .before .before .before .before .node-end .ensures) (c .before .before .before .before .shape-at2 .ensures) (c .before .before .before .if2 .left) (shaped-range (formed-next (c .before .before .before .before .before .before .before .before .before .before .before .pre .1 .formed) (shaped-range (c .before .before .before .before .before .before .before .before .before .before .before .pre .1 .formed) (c .before .before .before .before .before .before .before .shape-at .ensures) (omega (arith, c .before .before .before .before .before .before .if1 .left))) (c .before .before .before .before .before .node-end .ensures)) (c .before .before .before .before .shape-at2 .ensures) (omega (arith, c .before .before .before .if2 .left))) (c .before .before .node-end2 .ensures) (c .before .if3 .left) (c .validate-fortran-selector-value3 .ensures)
-
 abbrev test-calls : ℕ → test-lts.Claims
-test-calls t = (validate-c-family-type-below t, validate-c-family-type.Post, validate-expression-below t, validate-expression.Post, type-or-expression-below t, type-or-expression.Post, is-single-token-reads.Asked, is-single-token-reads.Learnt, validate-abstract-declarator-below t, validate-abstract-declarator.Post, arguments-below t, arguments.Post, validate-fortran-selector-list-below t, validate-fortran-selector-list.Post, looks-like-abstract-declarator-reads.Asked, looks-like-abstract-declarator-reads.Learnt, validate-parameter-type-list-below t, validate-parameter-type-list.Post)
+test-calls t = (validate-c-family-type-below t, validate-c-family-type.Post, validate-expression-below t, validate-expression.Post, either-below t, either.Post, is-single-token-reads.Asked, is-single-token-reads.Learnt, validate-abstract-declarator-below t, validate-abstract-declarator.Post, arguments-below t, arguments.Post, looks-like-abstract-declarator-reads.Asked, looks-like-abstract-declarator-reads.Learnt, validate-parameter-type-list-below t, validate-parameter-type-list.Post)
 
 test-enum-told : (t : ℕ) → test-lts.Need-enum-told (test-calls t) (test-at t) test.Post
 test-enum-told t c = search needs
 
 test-validate-c-family-type-requires : (t : ℕ) → test-lts.Need-validate-c-family-type-requires (test-calls t) (test-at t) test.Post
-test-validate-c-family-type-requires t c κs = (omega (arith, c .before .before .before .before .before .pre .0), c .before .before .before .before .before .pre .1)
+test-validate-c-family-type-requires t c κs = (omega (arith, c .before .before .before .before .before .pre .0), c .before .before .before .before .before .pre .1 .1)
 
 test-returns : (t : ℕ) → test-lts.Need-returns (test-calls t) (test-at t) test.Post
 unfolding test
@@ -396,7 +315,7 @@ test-enum-told-2 : (t : ℕ) → test-lts.Need-enum-told-2 (test-calls t) (test-
 test-enum-told-2 t c = search needs
 
 test-validate-expression-requires : (t : ℕ) → test-lts.Need-validate-expression-requires (test-calls t) (test-at t) test.Post
-test-validate-expression-requires t c κs = (omega (arith, c .before .before .before .before .before .pre .0), c .before .before .before .before .before .pre .1)
+test-validate-expression-requires t c κs = (omega (arith, c .before .before .before .before .before .pre .0), c .before .before .before .before .before .pre .1 .1)
 
 test-returns-2 : (t : ℕ) → test-lts.Need-returns-2 (test-calls t) (test-at t) test.Post
 unfolding test
@@ -410,7 +329,7 @@ unfolding test
 test-returns-3 t c = told _ _ (c .before .enum-told3 .given .1) (both-failed _ _ (λ x. refl) (no-node (c .if1 .taken)))
 
 test-validate-expression-requires-2 : (t : ℕ) → test-lts.Need-validate-expression-requires-2 (test-calls t) (test-at t) test.Post
-test-validate-expression-requires-2 t c κs = (omega (arith, c .before .before .before .before .before .before .pre .0), c .before .before .before .before .before .before .pre .1)
+test-validate-expression-requires-2 t c κs = (omega (arith, c .before .before .before .before .before .before .pre .0), c .before .before .before .before .before .before .pre .1 .1)
 
 test-returns-4 : (t : ℕ) → test-lts.Need-returns-4 (test-calls t) (test-at t) test.Post
 unfolding test
@@ -424,7 +343,7 @@ unfolding test
 test-returns-5 t c = told _ _ (c .before .enum-told4 .given .1) (either-held _ _ (λ x. refl) (empty-of (c .if2 .taken)))
 
 test-validate-expression-requires-3 : (t : ℕ) → test-lts.Need-validate-expression-requires-3 (test-calls t) (test-at t) test.Post
-test-validate-expression-requires-3 t c κs = (omega (arith, c .before .before .before .before .before .before .pre .0), c .before .before .before .before .before .before .pre .1)
+test-validate-expression-requires-3 t c κs = (omega (arith, c .before .before .before .before .before .before .pre .0), c .before .before .before .before .before .before .pre .1 .1)
 
 test-returns-6 : (t : ℕ) → test-lts.Need-returns-6 (test-calls t) (test-at t) test.Post
 unfolding test
@@ -433,11 +352,11 @@ test-returns-6 t c = told _ _ (c .before .before .enum-told4 .given .1) (either-
 test-enum-told-5 : (t : ℕ) → test-lts.Need-enum-told-5 (test-calls t) (test-at t) test.Post
 test-enum-told-5 t c = search needs
 
-test-type-or-expression-requires : (t : ℕ) → test-lts.Need-type-or-expression-requires (test-calls t) (test-at t) test.Post
-test-type-or-expression-requires t c κs = (omega (arith, c .before .before .before .before .before .pre .0), c .before .before .before .before .before .pre .1)
+test-either-requires : (t : ℕ) → test-lts.Need-either-requires (test-calls t) (test-at t) test.Post
+test-either-requires t c κs = (omega (arith, c .before .before .before .before .before .pre .0), c .before .before .before .before .before .pre .1 .1)
 
 test-returns-7 : (t : ℕ) → test-lts.Need-returns-7 (test-calls t) (test-at t) test.Post
-test-returns-7 t c = told _ _ (c .before .enum-told5 .given .1) (c .type-or-expression .ensures)
+test-returns-7 t c = told _ _ (c .before .enum-told5 .given .1) (c .either .ensures)
 
 test-enum-told-6 : (t : ℕ) → test-lts.Need-enum-told-6 (test-calls t) (test-at t) test.Post
 test-enum-told-6 t c = search needs
@@ -447,14 +366,14 @@ unfolding test
 test-returns-8 t c = told _ _ (c .before .enum-told6 .given .1) (either-held _ _ (λ x. refl) (no-bound (c .if3 .taken)))
 
 test-is-single-token-requires : (t : ℕ) → test-lts.Need-is-single-token-requires (test-calls t) (test-at t) test.Post
-test-is-single-token-requires t c κs = (omega arith, c .before .before .before .before .before .before .pre .1 .formed)
+test-is-single-token-requires t c κs = (omega arith, c .before .before .before .before .before .before .pre .1 .1 .formed)
 
 test-returns-9 : (t : ℕ) → test-lts.Need-returns-9 (test-calls t) (test-at t) test.Post
 unfolding test
 test-returns-9 t c = told _ _ (c .before .before .before .enum-told6 .given .1) (either-held _ _ (λ x. refl) (bound-of (c .before .before .if3 .left) (c .before .is-single-token .ensures) (c .if4 .taken)))
 
 test-validate-expression-requires-4 : (t : ℕ) → test-lts.Need-validate-expression-requires-4 (test-calls t) (test-at t) test.Post
-test-validate-expression-requires-4 t c κs = (omega (arith, c .before .before .before .before .before .before .before .before .pre .0), c .before .before .before .before .before .before .before .before .pre .1)
+test-validate-expression-requires-4 t c κs = (omega (arith, c .before .before .before .before .before .before .before .before .pre .0), c .before .before .before .before .before .before .before .before .pre .1 .1)
 
 test-returns-10 : (t : ℕ) → test-lts.Need-returns-10 (test-calls t) (test-at t) test.Post
 unfolding test
@@ -465,7 +384,7 @@ test-enum-told-7 t c = search needs
 
 test-validate-abstract-declarator-requires :
     (t : ℕ) → test-lts.Need-validate-abstract-declarator-requires (test-calls t) (test-at t) test.Post
-test-validate-abstract-declarator-requires t c κs = (omega (arith, c .before .before .before .before .before .pre .0), c .before .before .before .before .before .pre .1)
+test-validate-abstract-declarator-requires t c κs = (omega (arith, c .before .before .before .before .before .pre .0), c .before .before .before .before .before .pre .1 .1)
 
 test-returns-11 : (t : ℕ) → test-lts.Need-returns-11 (test-calls t) (test-at t) test.Post
 test-returns-11 t c = told _ _ (c .before .enum-told7 .given .1) (inside-declarator _ _ (c .validate-abstract-declarator .ensures))
@@ -474,7 +393,7 @@ test-enum-told-8 : (t : ℕ) → test-lts.Need-enum-told-8 (test-calls t) (test-
 test-enum-told-8 t c = search needs
 
 test-arguments-requires : (t : ℕ) → test-lts.Need-arguments-requires (test-calls t) (test-at t) test.Post
-test-arguments-requires t c κs = (omega (arith, c .before .before .before .before .before .pre .0), c .before .before .before .before .before .pre .1)
+test-arguments-requires t c κs = (omega (arith, c .before .before .before .before .before .pre .0), c .before .before .before .before .before .pre .1 .1)
 
 test-returns-12 : (t : ℕ) → test-lts.Need-returns-12 (test-calls t) (test-at t) test.Post
 test-returns-12 t c = told _ _ (c .before .enum-told8 .given .1) (c .arguments .ensures)
@@ -482,24 +401,19 @@ test-returns-12 t c = told _ _ (c .before .enum-told8 .given .1) (c .arguments .
 test-enum-told-9 : (t : ℕ) → test-lts.Need-enum-told-9 (test-calls t) (test-at t) test.Post
 test-enum-told-9 t c = search needs
 
-test-validate-fortran-selector-list-requires :
-    (t : ℕ) → test-lts.Need-validate-fortran-selector-list-requires (test-calls t) (test-at t) test.Post
-test-validate-fortran-selector-list-requires t c κs = (omega (arith, c .before .before .before .before .before .pre .0), c .before .before .before .before .before .pre .1)
-
 test-returns-13 : (t : ℕ) → test-lts.Need-returns-13 (test-calls t) (test-at t) test.Post
-unfolding test
-test-returns-13 t c = told _ _ (c .before .enum-told9 .given .1) (by-name _ (λ x. refl) (c .validate-fortran-selector-list .ensures))
+test-returns-13 t c = absurd (not-selectors (c .enum-told9 .given .1) (c .before .before .before .before .before .pre .1 .0))
 
 test-enum-known-inner : (t : ℕ) → test-lts.Need-enum-known-inner (test-calls t) (test-at t) test.Post
 test-enum-known-inner t c = search needs
 
 test-looks-like-abstract-declarator-requires :
     (t : ℕ) → test-lts.Need-looks-like-abstract-declarator-requires (test-calls t) (test-at t) test.Post
-test-looks-like-abstract-declarator-requires t c κs = c .before .before .before .before .before .before .pre .1 .formed
+test-looks-like-abstract-declarator-requires t c κs = c .before .before .before .before .before .before .pre .1 .1 .formed
 
 test-validate-abstract-declarator-requires-2 :
     (t : ℕ) → test-lts.Need-validate-abstract-declarator-requires-2 (test-calls t) (test-at t) test.Post
-test-validate-abstract-declarator-requires-2 t c κs = (omega (arith, c .before .before .before .before .before .before .before .before .pre .0), c .before .before .before .before .before .before .before .before .pre .1)
+test-validate-abstract-declarator-requires-2 t c κs = (omega (arith, c .before .before .before .before .before .before .before .before .pre .0), c .before .before .before .before .before .before .before .before .pre .1 .1)
 
 test-returns-14 : (t : ℕ) → test-lts.Need-returns-14 (test-calls t) (test-at t) test.Post
 test-returns-14 t c = told _ _ (c .before .before .before .before .inner .given .1) (group-declarator _ _ _ (c .before .before .looks-like-abstract-declarator .ensures) (c .before .if5 .taken) (c .validate-abstract-declarator2 .ensures))
@@ -509,42 +423,10 @@ test-returns-15 t c = told _ _ (c .before .before .before .before .inner .given 
 
 test-validate-parameter-type-list-requires :
     (t : ℕ) → test-lts.Need-validate-parameter-type-list-requires (test-calls t) (test-at t) test.Post
-test-validate-parameter-type-list-requires t c κs = (omega (arith, c .before .before .before .before .before .before .before .before .before .pre .0), c .before .before .before .before .before .before .before .before .before .pre .1)
+test-validate-parameter-type-list-requires t c κs = (omega (arith, c .before .before .before .before .before .before .before .before .before .pre .0), c .before .before .before .before .before .before .before .before .before .pre .1 .1)
 
 test-returns-16 : (t : ℕ) → test-lts.Need-returns-16 (test-calls t) (test-at t) test.Post
 test-returns-16 t c = told _ _ (c .before .before .before .before .before .inner .given .1) (group-parameters _ _ _ (c .before .before .before .looks-like-abstract-declarator .ensures) (c .before .before .if5 .left) (both-then _ _ (λ x. refl) (λ x s. sym (not-false _ (c .before .if6 .left))) (c .validate-parameter-type-list .ensures)))
-
-abbrev type-or-expression-calls : ℕ → type-or-expression-lts.Claims
-type-or-expression-calls t = (validate-c-family-type-below t, validate-c-family-type.Post, validate-expression-below t, validate-expression.Post)
-
-type-or-expression-validate-c-family-type-requires :
-    (t : ℕ) → type-or-expression-lts.Need-validate-c-family-type-requires (type-or-expression-calls t) (type-or-expression-at t) type-or-expression.Post
-type-or-expression-validate-c-family-type-requires t c κs = (omega (arith, c .before .before .before .pre .0), c .before .before .before .pre .1)
-
-type-or-expression-enum-known-said : (t : ℕ) → type-or-expression-lts.Need-enum-known-said (type-or-expression-calls t) (type-or-expression-at t) type-or-expression.Post
-type-or-expression-enum-known-said t c = search needs
-
-type-or-expression-returns : (t : ℕ) → type-or-expression-lts.Need-returns (type-or-expression-calls t) (type-or-expression-at t) type-or-expression.Post
-unfolding test
-type-or-expression-returns t c = first-holds _ (λ x. refl) (c .before .before .before .validate-c-family-type .ensures) (c .before .said .given .1)
-
-type-or-expression-enum-known-said-2 : (t : ℕ) → type-or-expression-lts.Need-enum-known-said-2 (type-or-expression-calls t) (type-or-expression-at t) type-or-expression.Post
-type-or-expression-enum-known-said-2 t c = search needs
-
-type-or-expression-validate-expression-requires :
-    (t : ℕ) → type-or-expression-lts.Need-validate-expression-requires (type-or-expression-calls t) (type-or-expression-at t) type-or-expression.Post
-type-or-expression-validate-expression-requires t c κs = (omega (arith, c .before .before .before .before .before .before .before .pre .0), c .before .before .before .before .before .before .before .pre .1)
-
-type-or-expression-returns-2 : (t : ℕ) → type-or-expression-lts.Need-returns-2 (type-or-expression-calls t) (type-or-expression-at t) type-or-expression.Post
-unfolding test
-type-or-expression-returns-2 t c = then-second _ (λ x. refl) (c .before .before .before .before .validate-c-family-type .ensures) (c .before .before .said2 .given .1) (c .validate-expression .ensures)
-
-type-or-expression-enum-told : (t : ℕ) → type-or-expression-lts.Need-enum-told (type-or-expression-calls t) (type-or-expression-at t) type-or-expression.Post
-type-or-expression-enum-told t c = search needs
-
-type-or-expression-returns-3 : (t : ℕ) → type-or-expression-lts.Need-returns-3 (type-or-expression-calls t) (type-or-expression-at t) type-or-expression.Post
-unfolding test
-type-or-expression-returns-3 t c = first-spent _ (λ x. refl) (c .before .before .validate-c-family-type .ensures) (c .enum-told .given .1)
 
 abbrev validate-abstract-declarator-Inv-loop : validate-abstract-declarator-lts.InvT-loop
 validate-abstract-declarator-Inv-loop language tree kinds words from to allowed left₀ before₀ st₀ at₀ left before st at = InDeclarator language tree kinds words from to allowed left st before at
@@ -730,7 +612,7 @@ validate-abstract-declarator-test-requires :
     validate-abstract-declarator.Post
     validate-abstract-declarator-Inv-loop
     validate-abstract-declarator-μ-loop
-validate-abstract-declarator-test-requires t c κs = (omega (arith, walk-further (c .before .before .before .before .before .before .before .before .before .before .loop .inv .walk) (omega arith) (c .before .before .before .before .before .before .node-end .ensures), walk-fits (c .before .before .before .before .before .before .before .before .before .before .loop .inv .walk) (omega arith) (c .before .before .before .before .before .before .node-end .ensures), c .before .before .before .before .before .before .before .before .before .before .loop .inv .walk .past, c .before .before .before .before .before .before .before .before .before .before .before .before .before .before .before .pre .0), walk-below (c .before .before .before .before .before .before .before .before .before .before .loop .inv .walk) (omega arith) (c .before .before .before .before .before .before .node-end .ensures) (c .before .before .before .before .before .before .before .before .before .before .before .before .before .before .before .pre .1 .worded))
+validate-abstract-declarator-test-requires t c κs = (omega (arith, walk-further (c .before .before .before .before .before .before .before .before .before .before .loop .inv .walk) (omega arith) (c .before .before .before .before .before .before .node-end .ensures), walk-fits (c .before .before .before .before .before .before .before .before .before .before .loop .inv .walk) (omega arith) (c .before .before .before .before .before .before .node-end .ensures), c .before .before .before .before .before .before .before .before .before .before .loop .inv .walk .past, c .before .before .before .before .before .before .before .before .before .before .before .before .before .before .before .pre .0), (asked (declarator-asks _ _ _ _ _ _) (declarator-moved (c .before .before .before .before .before .before .before .before .before .before .loop .inv) (omega arith) (c .before .before .before .before .before .before .before .before .shape-at .ensures) (c .before .before .before .before .before .before .before .exact-word .ensures) (c .before .before .before .before .before .before .node-end .ensures) (c .before .before .before .before .before .shape-at2 .ensures) (c .before .before .before .before .abstract-declarator-node .ensures) (c .before .before .act3 .given .1)), walk-below (c .before .before .before .before .before .before .before .before .before .before .loop .inv .walk) (omega arith) (c .before .before .before .before .before .before .node-end .ensures) (c .before .before .before .before .before .before .before .before .before .before .before .before .before .before .before .pre .1 .worded)))
 
 validate-abstract-declarator-enum-known-said-3 :
     (t : ℕ) → validate-abstract-declarator-lts.Need-enum-known-said-3 (validate-abstract-declarator-calls t)
@@ -967,7 +849,7 @@ validate-c-family-type-test-requires : (t : ℕ) → validate-c-family-type-lts.
     validate-c-family-type.Post
     validate-c-family-type-Inv-loop
     validate-c-family-type-μ-loop
-validate-c-family-type-test-requires t c κs = (omega (arith, walk-further (c .before .before .before .before .before .before .before .before .before .loop .inv .walk) (omega arith) (c .before .before .before .before .before .node-end .ensures), walk-fits (c .before .before .before .before .before .before .before .before .before .loop .inv .walk) (omega arith) (c .before .before .before .before .before .node-end .ensures), c .before .before .before .before .before .before .before .before .before .loop .inv .walk .past, c .before .before .before .before .before .before .before .before .before .before .before .before .before .before .before .before .pre .0), walk-below (c .before .before .before .before .before .before .before .before .before .loop .inv .walk) (omega arith) (c .before .before .before .before .before .node-end .ensures) (c .before .before .before .before .before .before .before .before .before .before .before .before .before .before .before .before .pre .1 .worded))
+validate-c-family-type-test-requires t c κs = (omega (arith, walk-further (c .before .before .before .before .before .before .before .before .before .loop .inv .walk) (omega arith) (c .before .before .before .before .before .node-end .ensures), walk-fits (c .before .before .before .before .before .before .before .before .before .loop .inv .walk) (omega arith) (c .before .before .before .before .before .node-end .ensures), c .before .before .before .before .before .before .before .before .before .loop .inv .walk .past, c .before .before .before .before .before .before .before .before .before .before .before .before .before .before .before .before .pre .0), (asked (type-asks _ _ _ _ _ _ _) (type-moved (c .before .before .before .before .before .before .before .before .before .loop .inv) (omega arith) (c .before .before .before .before .before .before .before .shape-at .ensures) (c .before .before .before .before .before .before .exact-word .ensures) (c .before .before .before .before .before .node-end .ensures) (c .before .before .before .before .shape-at2 .ensures) (c .before .before .before .c-family-node .ensures) (c .before .act3 .given .1)), walk-below (c .before .before .before .before .before .before .before .before .before .loop .inv .walk) (omega arith) (c .before .before .before .before .before .node-end .ensures) (c .before .before .before .before .before .before .before .before .before .before .before .before .before .before .before .before .pre .1 .worded)))
 
 validate-c-family-type-enum-known-said : (t : ℕ) → validate-c-family-type-lts.Need-enum-known-said (validate-c-family-type-calls t)
     (validate-c-family-type-at t)
@@ -1050,20 +932,23 @@ unfolding type-end
 validate-c-family-type-returns-6 t c = run-end (c .before .before .loop .inv) (omega arith) (c .plain2 .ensures)
 
 abbrev validate-cpp-template-argument-calls : ℕ → validate-cpp-template-argument-lts.Claims
-validate-cpp-template-argument-calls t = (type-or-expression-below t, type-or-expression.Post)
+validate-cpp-template-argument-calls t = (either-below t, either.Post)
 
 validate-cpp-template-argument-returns : (t : ℕ) → validate-cpp-template-argument-lts.Need-returns (validate-cpp-template-argument-calls t) (validate-cpp-template-argument-at t) validate-cpp-template-argument.Post
 unfolding validate-cpp-template-argument
 validate-cpp-template-argument-returns t c = both-failed _ _ (λ x. refl) (no-node (c .if1 .taken))
 
-validate-cpp-template-argument-type-or-expression-requires :
-    (t : ℕ) → validate-cpp-template-argument-lts.Need-type-or-expression-requires (validate-cpp-template-argument-calls t) (validate-cpp-template-argument-at t) validate-cpp-template-argument.Post
-validate-cpp-template-argument-type-or-expression-requires t c κs = (omega (arith, c .before .before .before .before .pre .0), c .before .before .before .before .pre .1)
+validate-cpp-template-argument-either-requires :
+    (t : ℕ) → validate-cpp-template-argument-lts.Need-either-requires (validate-cpp-template-argument-calls t) (validate-cpp-template-argument-at t) validate-cpp-template-argument.Post
+validate-cpp-template-argument-either-requires t c κs = (omega (arith, c .before .before .before .before .pre .0), c .before .before .before .before .pre .1)
 
 validate-cpp-template-argument-returns-2 :
-    (t : ℕ) → validate-cpp-template-argument-lts.Need-returns-2 (validate-cpp-template-argument-calls t) (validate-cpp-template-argument-at t) validate-cpp-template-argument.Post
+    (t : ℕ) →
+    validate-cpp-template-argument-lts.Need-returns-2 (validate-cpp-template-argument-calls t)
+    (validate-cpp-template-argument-at t)
+    validate-cpp-template-argument.Post
 unfolding validate-cpp-template-argument test
-validate-cpp-template-argument-returns-2 t c = both-then _ _ (λ x. refl) (some-node (c .before .if1 .left)) (c .type-or-expression .ensures)
+validate-cpp-template-argument-returns-2 t c = both-then _ _ (λ x. refl) (some-node (c .before .if1 .left)) (c .either .ensures)
 
 abbrev validate-expression-Inv-loop : validate-expression-lts.InvT-loop
 validate-expression-Inv-loop language tree kinds words from to allowed left₀ st₀ at₀ left st at = InExpression language tree kinds words from to allowed left st at
@@ -1164,7 +1049,7 @@ validate-expression-test-requires : (t : ℕ) → validate-expression-lts.Need-t
     validate-expression.Post
     validate-expression-Inv-loop
     validate-expression-μ-loop
-validate-expression-test-requires t c κs = (omega (arith, walk-further (c .before .before .before .before .before .before .before .loop .inv .walk) (omega arith) (c .before .before .before .before .node-end .ensures), walk-fits (c .before .before .before .before .before .before .before .loop .inv .walk) (omega arith) (c .before .before .before .before .node-end .ensures), c .before .before .before .before .before .before .before .loop .inv .walk .past, c .before .before .before .before .before .before .before .before .before .before .before .before .pre .0), walk-below (c .before .before .before .before .before .before .before .loop .inv .walk) (omega arith) (c .before .before .before .before .node-end .ensures) (c .before .before .before .before .before .before .before .before .before .before .before .before .pre .1 .worded))
+validate-expression-test-requires t c κs = (omega (arith, walk-further (c .before .before .before .before .before .before .before .loop .inv .walk) (omega arith) (c .before .before .before .before .node-end .ensures), walk-fits (c .before .before .before .before .before .before .before .loop .inv .walk) (omega arith) (c .before .before .before .before .node-end .ensures), c .before .before .before .before .before .before .before .loop .inv .walk .past, c .before .before .before .before .before .before .before .before .before .before .before .before .pre .0), (asked (expression-asks _ _ _) (expression-moved (c .before .before .before .before .before .before .before .loop .inv) (c .before .before .before .before .before .shape-at .ensures) (c .before .before .before .expression-node .ensures) (c .before .act3 .given .1)), walk-below (c .before .before .before .before .before .before .before .loop .inv .walk) (omega arith) (c .before .before .before .before .node-end .ensures) (c .before .before .before .before .before .before .before .before .before .before .before .before .pre .1 .worded)))
 
 validate-expression-enum-known-said : (t : ℕ) → validate-expression-lts.Need-enum-known-said (validate-expression-calls t)
     (validate-expression-at t)
@@ -1250,161 +1135,6 @@ validate-expression-returns-5 : (t : ℕ) → validate-expression-lts.Need-retur
     validate-expression-Inv-loop
     validate-expression-μ-loop
 validate-expression-returns-5 t c = run-end (c .before .before .before .loop .inv) (omega arith) (c .plain2 .ensures ∙ rw (c .before .expression-end .ensures))
-
-abbrev validate-fortran-selector-list-Inv-loop : validate-fortran-selector-list-lts.InvT-loop
-validate-fortran-selector-list-Inv-loop language tree kinds words from to allowed left₀ at₀ left at = InParts (validate-fortran-selector language kinds words (checked language kinds words)) (validate-fortran-selector-list language kinds words (checked language kinds words)) tree kinds from to allowed left at
-
-abbrev validate-fortran-selector-list-μ-loop : validate-fortran-selector-list-lts.MeasureT-loop
-validate-fortran-selector-list-μ-loop language tree kinds words from to allowed left₀ at₀ left at = to - at
-
-abbrev validate-fortran-selector-list-calls : ℕ → validate-fortran-selector-list-lts.Claims
-validate-fortran-selector-list-calls t = (parts-are-full-reads.Asked, parts-are-full-reads.Learnt, part-end-reads.Asked, part-end-reads.Learnt, selector-below t, selector.Post, node-end-reads.Asked, node-end-reads.Learnt)
-
-validate-fortran-selector-list-returns : (t : ℕ) → validate-fortran-selector-list-lts.Need-returns (validate-fortran-selector-list-calls t)
-    (validate-fortran-selector-list-at t)
-    validate-fortran-selector-list.Post
-    validate-fortran-selector-list-Inv-loop
-    validate-fortran-selector-list-μ-loop
-unfolding validate-fortran-selector-list
-validate-fortran-selector-list-returns t c = both-failed _ _ (λ x. refl) (no-list (c .if1 .taken))
-
-validate-fortran-selector-list-parts-are-full-requires :
-    (t : ℕ) → validate-fortran-selector-list-lts.Need-parts-are-full-requires (validate-fortran-selector-list-calls t)
-    (validate-fortran-selector-list-at t)
-    validate-fortran-selector-list.Post
-    validate-fortran-selector-list-Inv-loop
-    validate-fortran-selector-list-μ-loop
-validate-fortran-selector-list-parts-are-full-requires t c κs = c .before .before .before .before .pre .1 .formed
-
-validate-fortran-selector-list-returns-2 :
-    (t : ℕ) → validate-fortran-selector-list-lts.Need-returns-2 (validate-fortran-selector-list-calls t)
-    (validate-fortran-selector-list-at t)
-    validate-fortran-selector-list.Post
-    validate-fortran-selector-list-Inv-loop
-    validate-fortran-selector-list-μ-loop
-unfolding validate-fortran-selector-list
-validate-fortran-selector-list-returns-2 t c = both-failed _ _ (λ x. refl) (list-of (c .before .before .if1 .left) (c .before .parts-are-full .ensures) (not-true _ (c .if2 .taken)))
-
-validate-fortran-selector-list-loop-holds :
-    (t : ℕ) → validate-fortran-selector-list-lts.Need-loop-holds (validate-fortran-selector-list-calls t)
-    (validate-fortran-selector-list-at t)
-    validate-fortran-selector-list.Post
-    validate-fortran-selector-list-Inv-loop
-    validate-fortran-selector-list-μ-loop
-validate-fortran-selector-list-loop-holds t c = walk-start _ (c .before .before .before .before .before .before .pre .1 .formed) (selectors-start _ _ (c .before .before .if1 .left) (c .before .parts-are-full .ensures) (not-false _ (c .if2 .left)) _)
-
-validate-fortran-selector-list-part-end-requires :
-    (t : ℕ) → validate-fortran-selector-list-lts.Need-part-end-requires (validate-fortran-selector-list-calls t)
-    (validate-fortran-selector-list-at t)
-    validate-fortran-selector-list.Post
-    validate-fortran-selector-list-Inv-loop
-    validate-fortran-selector-list-μ-loop
-validate-fortran-selector-list-part-end-requires t c κs = walk-formed (c .loop .inv)
-
-validate-fortran-selector-list-selector-requires :
-    (t : ℕ) → validate-fortran-selector-list-lts.Need-selector-requires (validate-fortran-selector-list-calls t)
-    (validate-fortran-selector-list-at t)
-    validate-fortran-selector-list.Post
-    validate-fortran-selector-list-Inv-loop
-    validate-fortran-selector-list-μ-loop
-validate-fortran-selector-list-selector-requires t c κs = (omega (arith, parts-past _ (c .before .loop .inv) (c .part-end .ensures), parts-fit _ (c .before .loop .inv) (c .part-end .ensures), c .before .loop .inv .past, c .before .before .before .before .before .before .before .before .pre .0), parts-ready _ (c .before .loop .inv) (c .part-end .ensures) (c .before .before .before .before .before .before .before .before .pre .1 .worded))
-
-validate-fortran-selector-list-enum-known-said :
-    (t : ℕ) → validate-fortran-selector-list-lts.Need-enum-known-said (validate-fortran-selector-list-calls t)
-    (validate-fortran-selector-list-at t)
-    validate-fortran-selector-list.Post
-    validate-fortran-selector-list-Inv-loop
-    validate-fortran-selector-list-μ-loop
-validate-fortran-selector-list-enum-known-said t c = search needs
-
-validate-fortran-selector-list-enum-known-said-2 :
-    (t : ℕ) → validate-fortran-selector-list-lts.Need-enum-known-said-2 (validate-fortran-selector-list-calls t)
-    (validate-fortran-selector-list-at t)
-    validate-fortran-selector-list.Post
-    validate-fortran-selector-list-Inv-loop
-    validate-fortran-selector-list-μ-loop
-validate-fortran-selector-list-enum-known-said-2 t c = search needs
-
-validate-fortran-selector-list-returns-3 :
-    (t : ℕ) → validate-fortran-selector-list-lts.Need-returns-3 (validate-fortran-selector-list-calls t)
-    (validate-fortran-selector-list-at t)
-    validate-fortran-selector-list.Post
-    validate-fortran-selector-list-Inv-loop
-    validate-fortran-selector-list-μ-loop
-validate-fortran-selector-list-returns-3 t c = walk-fails (c .before .before .before .before .before .loop .inv) (parts-turn _ (c .before .before .before .before .before .loop .inv) (c .before .before .before .before .part-end .ensures)) (c .before .before .before .selector .ensures) (c .before .said2 .given .1)
-
-validate-fortran-selector-list-enum-told :
-    (t : ℕ) → validate-fortran-selector-list-lts.Need-enum-told (validate-fortran-selector-list-calls t)
-    (validate-fortran-selector-list-at t)
-    validate-fortran-selector-list.Post
-    validate-fortran-selector-list-Inv-loop
-    validate-fortran-selector-list-μ-loop
-validate-fortran-selector-list-enum-told t c = search needs
-
-validate-fortran-selector-list-returns-4 :
-    (t : ℕ) → validate-fortran-selector-list-lts.Need-returns-4 (validate-fortran-selector-list-calls t)
-    (validate-fortran-selector-list-at t)
-    validate-fortran-selector-list.Post
-    validate-fortran-selector-list-Inv-loop
-    validate-fortran-selector-list-μ-loop
-validate-fortran-selector-list-returns-4 t c = walk-spent (c .before .before .before .before .loop .inv) (parts-turn _ (c .before .before .before .before .loop .inv) (c .before .before .before .part-end .ensures)) (c .before .before .selector .ensures) (c .enum-told .given .1)
-
-validate-fortran-selector-list-returns-5 :
-    (t : ℕ) → validate-fortran-selector-list-lts.Need-returns-5 (validate-fortran-selector-list-calls t)
-    (validate-fortran-selector-list-at t)
-    validate-fortran-selector-list.Post
-    validate-fortran-selector-list-Inv-loop
-    validate-fortran-selector-list-μ-loop
-validate-fortran-selector-list-returns-5 t c = parts-last _ (walk-holds (c .before .before .before .before .before .before .loop .inv) (parts-turn _ (c .before .before .before .before .before .before .loop .inv) (c .before .before .before .before .before .part-end .ensures)) (c .before .before .before .before .selector .ensures) (c .before .before .said .given .1)) (c .if3 .taken)
-
-validate-fortran-selector-list-node-end-requires :
-    (t : ℕ) → validate-fortran-selector-list-lts.Need-node-end-requires (validate-fortran-selector-list-calls t)
-    (validate-fortran-selector-list-at t)
-    validate-fortran-selector-list.Post
-    validate-fortran-selector-list-Inv-loop
-    validate-fortran-selector-list-μ-loop
-validate-fortran-selector-list-node-end-requires t c κs = (omega (arith, parts-fit _ (c .before .before .before .before .before .before .loop .inv) (c .before .before .before .before .before .part-end .ensures), c .if3 .left), parts-comma _ (c .before .before .before .before .before .before .loop .inv) (c .before .before .before .before .before .part-end .ensures))
-
-validate-fortran-selector-list-loop-less :
-    (t : ℕ) → validate-fortran-selector-list-lts.Need-loop-less (validate-fortran-selector-list-calls t)
-    (validate-fortran-selector-list-at t)
-    validate-fortran-selector-list.Post
-    validate-fortran-selector-list-Inv-loop
-    validate-fortran-selector-list-μ-loop
-validate-fortran-selector-list-loop-less t c = omega (arith, parts-past _ (c .before .before .before .before .before .before .before .loop .inv) (c .before .before .before .before .before .before .part-end .ensures), walk-further (walk-holds (c .before .before .before .before .before .before .before .loop .inv) (parts-turn _ (c .before .before .before .before .before .before .before .loop .inv) (c .before .before .before .before .before .before .part-end .ensures)) (c .before .before .before .before .before .selector .ensures) (c .before .before .before .said .given .1)) (omega (arith, parts-fit _ (c .before .before .before .before .before .before .before .loop .inv) (c .before .before .before .before .before .before .part-end .ensures), c .before .if3 .left)) (c .node-end .ensures), walk-fits (walk-holds (c .before .before .before .before .before .before .before .loop .inv) (parts-turn _ (c .before .before .before .before .before .before .before .loop .inv) (c .before .before .before .before .before .before .part-end .ensures)) (c .before .before .before .before .before .selector .ensures) (c .before .before .before .said .given .1)) (omega (arith, parts-fit _ (c .before .before .before .before .before .before .before .loop .inv) (c .before .before .before .before .before .before .part-end .ensures), c .before .if3 .left)) (c .node-end .ensures))
-
-validate-fortran-selector-list-loop-again :
-    (t : ℕ) → validate-fortran-selector-list-lts.Need-loop-again (validate-fortran-selector-list-calls t)
-    (validate-fortran-selector-list-at t)
-    validate-fortran-selector-list.Post
-    validate-fortran-selector-list-Inv-loop
-    validate-fortran-selector-list-μ-loop
-validate-fortran-selector-list-loop-again t c = parts-next _ (walk-holds (c .before .before .before .before .before .before .before .loop .inv) (parts-turn _ (c .before .before .before .before .before .before .before .loop .inv) (c .before .before .before .before .before .before .part-end .ensures)) (c .before .before .before .before .before .selector .ensures) (c .before .before .before .said .given .1)) (omega (arith, parts-fit _ (c .before .before .before .before .before .before .before .loop .inv) (c .before .before .before .before .before .before .part-end .ensures), c .before .if3 .left)) (c .node-end .ensures)
-
-abbrev validate-fortran-selector-value-calls : ℕ → validate-fortran-selector-value-lts.Claims
-validate-fortran-selector-value-calls t = (is-single-token-reads.Asked, is-single-token-reads.Learnt, validate-expression-below t, validate-expression.Post)
-
-validate-fortran-selector-value-is-single-token-requires :
-    (t : ℕ) → validate-fortran-selector-value-lts.Need-is-single-token-requires (validate-fortran-selector-value-calls t) (validate-fortran-selector-value-at t) validate-fortran-selector-value.Post
-validate-fortran-selector-value-is-single-token-requires t c κs = (omega arith, c .before .before .before .pre .1 .formed)
-
-validate-fortran-selector-value-is-single-token-requires-2 :
-    (t : ℕ) → validate-fortran-selector-value-lts.Need-is-single-token-requires-2 (validate-fortran-selector-value-calls t) (validate-fortran-selector-value-at t) validate-fortran-selector-value.Post
-validate-fortran-selector-value-is-single-token-requires-2 t c κs = (omega arith, c .before .before .before .before .pre .1 .formed)
-
-validate-fortran-selector-value-returns :
-    (t : ℕ) → validate-fortran-selector-value-lts.Need-returns (validate-fortran-selector-value-calls t) (validate-fortran-selector-value-at t) validate-fortran-selector-value.Post
-unfolding validate-fortran-selector-value
-validate-fortran-selector-value-returns t c = either-held _ _ (λ x. refl) (value-of (c .before .before .is-single-token .ensures) (c .before .is-single-token2 .ensures) (c .if1 .taken))
-
-validate-fortran-selector-value-validate-expression-requires :
-    (t : ℕ) → validate-fortran-selector-value-lts.Need-validate-expression-requires (validate-fortran-selector-value-calls t) (validate-fortran-selector-value-at t) validate-fortran-selector-value.Post
-validate-fortran-selector-value-validate-expression-requires t c κs = (omega (arith, c .before .before .before .before .before .before .pre .0), c .before .before .before .before .before .before .pre .1)
-
-validate-fortran-selector-value-returns-2 :
-    (t : ℕ) → validate-fortran-selector-value-lts.Need-returns-2 (validate-fortran-selector-value-calls t) (validate-fortran-selector-value-at t) validate-fortran-selector-value.Post
-unfolding validate-fortran-selector-value
-validate-fortran-selector-value-returns-2 t c = either-else _ _ (λ x. refl) (value-of (c .before .before .before .is-single-token .ensures) (c .before .before .is-single-token2 .ensures) (c .before .if1 .left)) (c .validate-expression .ensures)
 
 abbrev validate-parameter-type-list-Inv-loop : validate-parameter-type-list-lts.InvT-loop
 validate-parameter-type-list-Inv-loop language tree kinds words from to allowed left₀ at₀ left at = InParts (validate-parameter language kinds words (checked language kinds words)) (validate-parameter-type-list language kinds words (checked language kinds words)) tree kinds from to allowed left at
@@ -1530,21 +1260,18 @@ validate-parameter-type-list-loop-again :
     validate-parameter-type-list-μ-loop
 validate-parameter-type-list-loop-again t c = parts-next _ (walk-holds (c .before .before .before .before .before .before .before .loop .inv) (parts-turn _ (c .before .before .before .before .before .before .before .loop .inv) (c .before .before .before .before .before .before .part-end .ensures)) (c .before .before .before .before .before .parameter .ensures) (c .before .before .before .said .given .1)) (omega (arith, parts-fit _ (c .before .before .before .before .before .before .before .loop .inv) (c .before .before .before .before .before .before .part-end .ensures), c .before .if3 .left)) (c .node-end .ensures)
 
-pub +arguments+parameter+selector+test+type-or-expression+validate-abstract-declarator+validate-c-family-type+validate-cpp-template-argument+validate-expression+validate-fortran-selector-list+validate-fortran-selector-value+validate-parameter-type-list-spec :
+pub +arguments+either+parameter+test+validate-abstract-declarator+validate-c-family-type+validate-cpp-template-argument+validate-expression+validate-parameter-type-list-spec :
     {M : Type 1} → statement M
-+arguments+parameter+selector+test+type-or-expression+validate-abstract-declarator+validate-c-family-type+validate-cpp-template-argument+validate-expression+validate-fortran-selector-list+validate-fortran-selector-value+validate-parameter-type-list-spec =
++arguments+either+parameter+test+validate-abstract-declarator+validate-c-family-type+validate-cpp-template-argument+validate-expression+validate-parameter-type-list-spec =
     close
     μ-arguments
+    μ-either
     μ-parameter
-    μ-selector
     μ-test
-    μ-type-or-expression
     μ-validate-abstract-declarator
     μ-validate-c-family-type
     μ-validate-cpp-template-argument
     μ-validate-expression
-    μ-validate-fortran-selector-list
-    μ-validate-fortran-selector-value
     μ-validate-parameter-type-list
     (λ t. arguments-lts.spec (arguments-calls t)
     (arguments-at t)
@@ -1563,6 +1290,17 @@ pub +arguments+parameter+selector+test+type-or-expression+validate-abstract-decl
     (arguments-loop-less t)
     (arguments-loop-again t)
     (arguments-returns-3 t))
+    (λ t. either-lts.spec (either-calls t)
+    (either-at t)
+    either.Post
+    (either-validate-c-family-type-requires t)
+    (either-enum-known-said t)
+    (either-returns t)
+    (either-enum-known-said-2 t)
+    (either-validate-expression-requires t)
+    (either-returns-2 t)
+    (either-enum-told t)
+    (either-returns-3 t))
     (λ t. parameter-lts.spec (parameter-calls t)
     (parameter-at t)
     parameter.Post
@@ -1570,20 +1308,6 @@ pub +arguments+parameter+selector+test+type-or-expression+validate-abstract-decl
     (parameter-returns t)
     (parameter-validate-c-family-type-requires t)
     (parameter-returns-2 t))
-    (λ t. selector-lts.spec (selector-calls t)
-    (selector-at t)
-    selector.Post
-    (selector-shape-at-requires t)
-    (selector-validate-fortran-selector-value-requires t)
-    (selector-returns t)
-    (selector-node-end-requires t)
-    (selector-shape-at-requires-2 t)
-    (selector-validate-fortran-selector-value-requires-2 t)
-    (selector-returns-2 t)
-    (selector-node-end-requires-2 t)
-    (selector-returns-3 t)
-    (selector-validate-fortran-selector-value-requires-3 t)
-    (selector-returns-4 t))
     (λ t. test-lts.spec (test-calls t)
     (test-at t)
     test.Post
@@ -1602,7 +1326,7 @@ pub +arguments+parameter+selector+test+type-or-expression+validate-abstract-decl
     (test-validate-expression-requires-3 t)
     (test-returns-6 t)
     (test-enum-told-5 t)
-    (test-type-or-expression-requires t)
+    (test-either-requires t)
     (test-returns-7 t)
     (test-enum-told-6 t)
     (test-returns-8 t)
@@ -1617,7 +1341,6 @@ pub +arguments+parameter+selector+test+type-or-expression+validate-abstract-decl
     (test-arguments-requires t)
     (test-returns-12 t)
     (test-enum-told-9 t)
-    (test-validate-fortran-selector-list-requires t)
     (test-returns-13 t)
     (test-enum-known-inner t)
     (test-looks-like-abstract-declarator-requires t)
@@ -1626,17 +1349,6 @@ pub +arguments+parameter+selector+test+type-or-expression+validate-abstract-decl
     (test-returns-15 t)
     (test-validate-parameter-type-list-requires t)
     (test-returns-16 t))
-    (λ t. type-or-expression-lts.spec (type-or-expression-calls t)
-    (type-or-expression-at t)
-    type-or-expression.Post
-    (type-or-expression-validate-c-family-type-requires t)
-    (type-or-expression-enum-known-said t)
-    (type-or-expression-returns t)
-    (type-or-expression-enum-known-said-2 t)
-    (type-or-expression-validate-expression-requires t)
-    (type-or-expression-returns-2 t)
-    (type-or-expression-enum-told t)
-    (type-or-expression-returns-3 t))
     (λ t. validate-abstract-declarator-lts.spec (validate-abstract-declarator-calls t)
     (validate-abstract-declarator-at t)
     validate-abstract-declarator.Post
@@ -1715,7 +1427,7 @@ pub +arguments+parameter+selector+test+type-or-expression+validate-abstract-decl
     (validate-cpp-template-argument-at t)
     validate-cpp-template-argument.Post
     (validate-cpp-template-argument-returns t)
-    (validate-cpp-template-argument-type-or-expression-requires t)
+    (validate-cpp-template-argument-either-requires t)
     (validate-cpp-template-argument-returns-2 t))
     (λ t. validate-expression-lts.spec (validate-expression-calls t)
     (validate-expression-at t)
@@ -1747,34 +1459,6 @@ pub +arguments+parameter+selector+test+type-or-expression+validate-abstract-decl
     (validate-expression-expression-end-requires t)
     (validate-expression-plain-requires-2 t)
     (validate-expression-returns-5 t))
-    (λ t. validate-fortran-selector-list-lts.spec (validate-fortran-selector-list-calls t)
-    (validate-fortran-selector-list-at t)
-    validate-fortran-selector-list.Post
-    validate-fortran-selector-list-Inv-loop
-    validate-fortran-selector-list-μ-loop
-    (validate-fortran-selector-list-returns t)
-    (validate-fortran-selector-list-parts-are-full-requires t)
-    (validate-fortran-selector-list-returns-2 t)
-    (validate-fortran-selector-list-loop-holds t)
-    (validate-fortran-selector-list-part-end-requires t)
-    (validate-fortran-selector-list-selector-requires t)
-    (validate-fortran-selector-list-enum-known-said t)
-    (validate-fortran-selector-list-enum-known-said-2 t)
-    (validate-fortran-selector-list-returns-3 t)
-    (validate-fortran-selector-list-enum-told t)
-    (validate-fortran-selector-list-returns-4 t)
-    (validate-fortran-selector-list-returns-5 t)
-    (validate-fortran-selector-list-node-end-requires t)
-    (validate-fortran-selector-list-loop-less t)
-    (validate-fortran-selector-list-loop-again t))
-    (λ t. validate-fortran-selector-value-lts.spec (validate-fortran-selector-value-calls t)
-    (validate-fortran-selector-value-at t)
-    validate-fortran-selector-value.Post
-    (validate-fortran-selector-value-is-single-token-requires t)
-    (validate-fortran-selector-value-is-single-token-requires-2 t)
-    (validate-fortran-selector-value-returns t)
-    (validate-fortran-selector-value-validate-expression-requires t)
-    (validate-fortran-selector-value-returns-2 t))
     λ t. validate-parameter-type-list-lts.spec (validate-parameter-type-list-calls t)
     (validate-parameter-type-list-at t)
     validate-parameter-type-list.Post

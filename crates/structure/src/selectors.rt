@@ -1,0 +1,100 @@
+// The selectors in the parentheses of a Fortran type.
+
+use crate::checks::validate_expression;
+use crate::moves::Verdict;
+use crate::nodes::is_single_token;
+use crate::nodes::node_end;
+use crate::nodes::parts_are_full;
+use crate::nodes::shape_at;
+use crate::parts::part_end;
+use rows::kinds::COLON;
+use rows::kinds::EQUAL;
+use rows::kinds::IDENTIFIER;
+use rows::kinds::STAR;
+ghost use mathlib.Core.Path.{_≡_};
+ghost use Rattle.structure.specs.Structure.{validate-fortran-selector-value, validate-fortran-selector, validate-fortran-selector-list};
+ghost use Rattle.structure.specs.Stands.{Ready};
+ghost use Rattle.structure.specs.Says.{Answers};
+
+fn validate_fortran_selector_value(
+    language: u8,
+    tree: &[u32],
+    kinds: &[u8],
+    words: &[u8],
+    from: usize,
+    to: usize,
+    allowed: usize,
+) -> Verdict
+    requires { ⌜ Ready (now tree) (now kinds) (now words) from to ⌝ }
+    ensures { λ r. ⌜ Answers validate-fortran-selector-value language (now (tree .entry)) (now (kinds .entry)) (now (words .entry)) from to allowed r ⌝ }
+{
+    let star = is_single_token(tree, kinds, STAR, from, to);
+    if star | is_single_token(tree, kinds, COLON, from, to) {
+        return Verdict::Holds(allowed);
+    }
+    validate_expression(language, tree, kinds, words, from, to, allowed)
+}
+
+// One selector, with or without a keyword and `=`.
+fn validate_fortran_selector(
+    language: u8,
+    tree: &[u32],
+    kinds: &[u8],
+    words: &[u8],
+    from: usize,
+    to: usize,
+    allowed: usize,
+) -> Verdict
+    requires { ⌜ Ready (now tree) (now kinds) (now words) from to ⌝ }
+    ensures { λ r. ⌜ Answers validate-fortran-selector language (now (tree .entry)) (now (kinds .entry)) (now (words .entry)) from to allowed r ⌝ }
+{
+    if shape_at(tree, kinds, from, to) != IDENTIFIER {
+        return validate_fortran_selector_value(language, tree, kinds, words, from, to, allowed);
+    }
+    let second = node_end(tree, kinds, from, to);
+    if shape_at(tree, kinds, second, to) != EQUAL {
+        return validate_fortran_selector_value(language, tree, kinds, words, from, to, allowed);
+    }
+    let value = node_end(tree, kinds, second, to);
+    if value == to {
+        return Verdict::Fails(allowed);
+    }
+    validate_fortran_selector_value(language, tree, kinds, words, value, to, allowed)
+}
+
+pub fn validate_fortran_selector_list(
+    language: u8,
+    tree: &[u32],
+    kinds: &[u8],
+    words: &[u8],
+    from: usize,
+    to: usize,
+    allowed: usize,
+) -> Verdict
+    requires { ⌜ Ready (now tree) (now kinds) (now words) from to ⌝ }
+    ensures { λ r. ⌜ Answers validate-fortran-selector-list language (now (tree .entry)) (now (kinds .entry)) (now (words .entry)) from to allowed r ⌝ }
+{
+    if from == to {
+        return Verdict::Fails(allowed);
+    }
+    if !parts_are_full(tree, kinds, from, to) {
+        return Verdict::Fails(allowed);
+    }
+    let mut left = allowed;
+    let mut at = from;
+    loop {
+        let end = part_end(tree, kinds, at, to);
+        let said = validate_fortran_selector(language, tree, kinds, words, at, end, left);
+        match said {
+            Verdict::Holds(steps) => {
+                left = steps;
+            }
+            Verdict::Fails(steps) => return Verdict::Fails(steps),
+            Verdict::Spent => return Verdict::Spent,
+        }
+        if end == to {
+            return Verdict::Holds(left);
+        }
+        at = node_end(tree, kinds, end, to);
+    }
+}

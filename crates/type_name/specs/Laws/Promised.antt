@@ -1,0 +1,127 @@
+-- The demands' clauses about accepted rows follow from the answer and the buffer being the definition's.
+-- Assumes nothing.
+use Prim.Native.Nat.{ℕ, _≤_}
+use mathlib.Core.Path.{_≡_, sym, ap, subst, _∙_}
+use mathlib.Core.Bool.{Bool}
+use mathlib.Core.List.{List}
+use native.Mathlib.Omega.{arith}
+use lib.ListN.{length, take}
+use lib.Seq.{take-append-seam}
+use lib.Dec.{eqb}
+use Rattle.rows.specs.Languages.{Cpp}
+use Rattle.rows.specs.Format.{format, head-length, most-tokens}
+use Rattle.rows.specs.Records.{RowToken, kinds-of}
+use Rattle.rows.specs.Laws.RowFacts.{good-row}
+use Rattle.rows.specs.declared.answer.Answer.{Answer}
+use Rattle.rows.specs.declared.answer.Answer.the-variants.{Accepted}
+use Rattle.prescan.specs.Laws.Pairs.{prescan-pairs}
+use Rattle.reader.specs.Nodes.{Nodes, count, records}
+use Rattle.reader.specs.Reading.{MAX-NESTING-DEPTH, got, reading}
+use Rattle.reader.specs.Standing.{depth}
+use Rattle.reader.specs.Laws.Tokens.{KindsKnown}
+use Rattle.reader.specs.Laws.NodeNumbers.{three-each}
+use Rattle.reader.specs.Laws.Injective.{records-injective}
+use Rattle.reader.specs.Laws.Bounds.{nesting}
+use Rattle.reader.specs.Laws.Openers.{one-G-each, one-B-each}
+use Rattle.reader.specs.Laws.Groups.{partner, below-each}
+use Rattle.reader.specs.Laws.WrittenOut.{kinds-in, angles-as-often, else-same, same-throughout}
+use Rattle.type_name.specs.Answers.{accepted, refused, Outcome, untouched, read, outcome, answer-in, answer, filled, buffer-in, final-buffer}
+use Rattle.type_name.specs.Promises.{Answered, Buffered, AcceptedAs, TreeDefined, BracketsOf, tokens-in, WrittenAs, Promised}
+use Rattle.type_name.specs.Laws.Parts.{is-refused, nodes-in, steps-in, one-row}
+use Rattle.type_name.specs.Laws.AcceptedRow.{FileAccepted, accepted-file}
+use Rattle.type_name.specs.Laws.RowTokens.{kinds-known, worded, same-kinds}
+use Rattle.type_name.specs.Laws.Stable.{comes-back}
+
+-- ---- the tree is the definition's
+
+-- An accepted answer comes of an accepted tree.
+from-answer : (o : Outcome) (nodes steps : ℕ) → answer-in o ≡ Accepted nodes steps → (x : Nodes) × (o ≡ read (accepted x steps)) × (count x ≡ nodes)
+unfolding answer-in
+from-answer (untouched e) nodes steps q = let clash : _≡_ {A = ℕ} 1 0 = ap is-refused q in absurd (omega (arith, clash))
+from-answer (read (accepted x m)) nodes steps q = (x, ap (λ (k : ℕ). read (accepted x k)) (ap steps-in q), ap nodes-in q)
+from-answer (read (refused e m)) nodes steps q = let clash : _≡_ {A = ℕ} 1 0 = ap is-refused q in absurd (omega (arith, clash))
+
+front : (room : ℕ) (x : Nodes) → take (length (records x)) (filled room (records x)) ≡ records x
+unfolding filled
+front room x = take-append-seam (records x) _
+
+module _ (file before : List ℕ) (a : Answer) (after : List ℕ) (answered : Answered file before a) (buffered : Buffered file before after) where
+  tree-defined : TreeDefined file before a after
+  unfolding answer final-buffer buffer-in
+  tree-defined nodes steps q =
+      let t = from-answer (outcome file (length before)) nodes steps (sym answered ∙ q) in
+      let w : after ≡ filled (length before) (records (t .0)) = buffered ∙ ap (buffer-in before) (t .1) in
+      let f = accepted-file file (length before) (t .0) steps (t .1) in
+      record {
+        tokens = f .0;
+        tree = t .0;
+        accepted-as = record {
+          answered = q ∙ ap (λ (k : ℕ). Accepted k steps) (sym (t .2));
+          row-read = f .1 .row-read;
+          tree-held = rw w (front (length before) (t .0));
+        };
+        defined = t .1;
+        whole = w;
+      }
+
+  -- The tree that stands in front of the buffer is the one that the definition gives, of the row that the file holds.
+  held-tree : (ts : List RowToken) (x : Nodes) (steps : ℕ) → AcceptedAs file a after ts x steps → FileAccepted file ts x steps
+  held-tree ts x steps p =
+      let t = tree-defined (count x) steps (p .answered) in
+      let y = t .tree in
+      let nodes : count x ≡ count y = ap nodes-in (sym (p .answered) ∙ t .accepted-as .answered) in
+      let long : length (records x) ≡ length (records y) = omega (arith, three-each x, three-each y, nodes) in
+      let same : records y ≡ records x = sym (t .accepted-as .tree-held) ∙ ap (λ (k : ℕ). take k after) (sym long) ∙ p .tree-held in
+      let is-read : outcome file (length before) ≡ read (accepted x steps) = t .defined ∙ ap (λ (z : Nodes). read (accepted z steps)) (records-injective y x same) in
+      let f = accepted-file file (length before) x steps is-read in
+      subst (λ (us : List RowToken). FileAccepted file us x steps) (one-row _ (f .0) ts (f .1 .row-read) (p .row-read)) (f .1)
+
+-- ---- what holds of the tree of an accepted file
+
+module _ (file : List ℕ) (ts : List RowToken) (x : Nodes) (steps : ℕ) (f : FileAccepted file ts x steps) where
+  abbrev cpp : Bool
+  cpp = eqb (f .head-of .language) Cpp
+
+  known : KindsKnown (kinds-of ts)
+  known = kinds-known ts (good-row format file most-tokens head-length ts (f .row-read))
+
+  nested : depth x ≤ MAX-NESTING-DEPTH
+  nested = nesting (kinds-of ts) cpp (f .row-accepted .reads)
+
+  brackets : BracketsOf (kinds-of ts) x
+  brackets =
+      let ps = prescan-pairs (f .head-of .language) (kinds-of ts) (f .row-accepted .scan) (f .row-accepted .scanned) in
+      record {
+        pairs = ps .0;
+        paired = ps .1;
+        one-G-each = one-G-each (kinds-of ts) known cpp (f .row-accepted .reads);
+        one-B-each = one-B-each (kinds-of ts) known cpp (f .row-accepted .reads);
+        partner = partner (kinds-of ts) known (ps .0) (ps .1) cpp (f .row-accepted .reads);
+        below-each = below-each (kinds-of ts) known (ps .0) (ps .1) cpp (f .row-accepted .reads);
+      }
+
+  written-as : WrittenAs (tokens-in ts) (kinds-of ts) x
+  written-as =
+      let w = worded ts (good-row format file most-tokens head-length ts (f .row-read)) in
+      let k : KindsKnown (kinds-in (tokens-in ts)) = rw (same-kinds ts) known in
+      let r : reading cpp (kinds-in (tokens-in ts)) ≡ got x (f .row-accepted .at) (f .row-accepted .half) (f .row-accepted .reading-steps) = rw (same-kinds ts) (f .row-accepted .reads) in
+      record {
+        angles-as-often = angles-as-often (tokens-in ts) w k cpp r;
+        else-same = else-same (tokens-in ts) w k cpp r;
+        same-throughout = λ none. same-throughout (tokens-in ts) w k cpp r (rw (same-kinds ts) none);
+      }
+
+-- ---- the clauses
+
+pub promised : (file before : List ℕ) (a : Answer) (after : List ℕ) → Answered file before a → Buffered file before after → Promised file before a after
+promised file before a after answered buffered =
+    let held = held-tree file before a after answered buffered in
+    record {
+      answered = answered;
+      buffered = buffered;
+      tree-defined = tree-defined file before a after answered buffered;
+      nested = λ ts x steps p. nested file ts x steps (held ts x steps p);
+      brackets-paired = λ ts x steps p. brackets file ts x steps (held ts x steps p);
+      written-out = λ ts x steps p. written-as file ts x steps (held ts x steps p);
+      stable = λ ts x steps p file′ before′ n. comes-back file file′ before′ ts x steps (held ts x steps p) n;
+    }
