@@ -5,7 +5,8 @@
 //! running the original. Everything else serves it: `format` takes files
 //! apart, `copies` runs the original, `tree` makes node records of its trees,
 //! `listing` prints answers, `generate` makes cases, `worked_rows` holds the
-//! rows that document 01 works out.
+//! rows that document 01 works out, `replay` writes the list of answers that a
+//! program replays.
 
 pub mod answer;
 pub mod copies;
@@ -16,6 +17,7 @@ pub mod lexed;
 pub mod listing;
 pub mod oracle;
 pub mod profile;
+pub mod replay;
 pub mod tree;
 pub mod worked_rows;
 

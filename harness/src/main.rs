@@ -8,7 +8,7 @@ use harness::generate::{self, Case};
 use harness::listing::listing;
 use harness::oracle;
 use harness::profile::{self, HostLanguage, MEANT_STANDARD};
-use harness::{answer::Answer, lexed, worked_rows};
+use harness::{answer::Answer, lexed, replay, worked_rows};
 
 const HELP: &str = "\
 harness COMMAND: the original type-name reader, run on rows
@@ -26,6 +26,8 @@ answers --seed S --count N [--style NAME]
     exhaustive; without one the first eight take turns.
 rows
     Checks the rows that document 01 works out.
+replay
+    Writes the replay list to standard output.
 help
     Prints this.
 ";
@@ -41,6 +43,7 @@ fn main() -> ExitCode {
         "row" => write_row(rest),
         "answers" => print_answers(rest),
         "rows" => check_rows(rest),
+        "replay" => write_replay(rest),
         "help" | "--help" => write(HELP.as_bytes()),
         _ => Err(format!("no command `{command}`; try `harness help`")),
     };
@@ -123,6 +126,11 @@ fn check_rows(arguments: &[String]) -> Done {
     let (lines, all) = worked_rows::check();
     write((lines.join("\n") + "\n").as_bytes())?;
     all.then_some(()).ok_or("not all rows agree".to_owned())
+}
+
+fn write_replay(arguments: &[String]) -> Done {
+    Options::read(arguments, &[])?.no_text()?;
+    write(&replay::list())
 }
 
 fn write(bytes: &[u8]) -> Done {

@@ -1,0 +1,80 @@
+-- What the program `listing` prints: document 01, end of "Rows worked out".
+-- Assumes nothing.
+use Prim.Native.Nat.{ℕ, zero, suc, _+_, _*_, _/_, min}
+use mathlib.Core.Bool.{Bool, true, false, _&&_}
+use mathlib.Core.List.{List, [], _∷_, _++_}
+use lib.ListN.{length, getD}
+use lib.Dec.{eqb, ltb}
+use Rattle.rows.specs.Notation.{if_then_else_, _is-one-of_}
+use Rattle.rows.specs.Words.{bytes}
+use Rattle.reader.specs.Nodes.{node-width, number, G-node, B-node, L-node}
+use Rattle.text.specs.Text.{ended}
+
+abbrev pub space : ℕ
+space = 32
+
+abbrev pub newline : ℕ
+newline = 10
+
+-- The letters of the node kinds 0 to 4; no node has another kind.
+unfoldable pub letter : ℕ → ℕ
+unfolding bytes
+letter kind = getD (bytes "TGBLA") kind 63
+
+-- The numbers of node record number i.
+unfoldable pub kind-of : List ℕ → ℕ → ℕ
+kind-of tree i = getD tree (3 * i) 0
+
+unfoldable pub token-of : List ℕ → ℕ → ℕ
+token-of tree i = getD tree (3 * i + 1) 0
+
+unfoldable pub extent-of : List ℕ → ℕ → ℕ
+extent-of tree i = getD tree (3 * i + 2) 0
+
+-- "Level and nesting count G, B and L, not A."
+unfoldable pub makes-level : ℕ → Bool
+unfolding number _is-one-of_
+makes-level kind = kind is-one-of (number G-node ∷ number B-node ∷ number L-node ∷ [])
+
+-- A node stands below the earlier node number `above`, which is a G, B or L: the extent counts the nodes of a subtree, itself included.
+unfoldable pub stands-below : List ℕ → ℕ → ℕ → Bool
+unfolding makes-level kind-of extent-of
+stands-below tree above node = makes-level (kind-of tree above) && ltb node (above + extent-of tree above)
+
+-- How many of the first n nodes a node stands below.
+unfoldable pub levels-of : List ℕ → ℕ → ℕ → ℕ
+levels-of tree node zero = 0
+levels-of tree node (suc n) = levels-of tree node n + (if stands-below tree n node then 1 else 0)
+
+-- "Level (groups and lists above)".
+unfoldable pub level : List ℕ → ℕ → ℕ
+level tree node = levels-of tree node node
+
+-- "Level, letter, token, extent".
+unfoldable pub node-line : List ℕ → ℕ → List ℕ
+node-line tree i = ended (level tree i) space ++ (letter (kind-of tree i) ∷ []) ++ (space ∷ []) ++ ended (token-of tree i) space ++ ended (extent-of tree i) newline
+
+-- The lines of the first n nodes.
+unfoldable pub node-lines : List ℕ → ℕ → List ℕ
+node-lines tree zero = []
+node-lines tree (suc n) = node-lines tree n ++ node-line tree n
+
+-- "First line nodes and steps".
+unfoldable pub accepted-line : (nodes steps : ℕ) → List ℕ
+unfolding bytes
+accepted-line nodes steps = bytes "ok " ++ ended nodes space ++ ended steps newline
+
+-- "(Number, token, detail, steps)".
+unfoldable pub refused-line : (number token detail steps : ℕ) → List ℕ
+unfolding bytes
+refused-line number token detail steps = bytes "no " ++ ended number space ++ ended token space ++ ended detail space ++ ended steps newline
+
+-- How many nodes are listed: as many as the answer counts, and there are no more than the tree buffer has room for.
+unfoldable pub listed : ℕ → List ℕ → ℕ
+listed nodes tree = min nodes (length tree / 3)
+
+-- The four numbers of an answer (0, nodes, steps, 0 or number, token, detail, steps) and the tree buffer, as text.
+unfoldable pub listing : List ℕ → List ℕ → List ℕ
+listing answer tree =
+    if eqb (getD answer 0 0) 0 then accepted-line (getD answer 1 0) (getD answer 2 0) ++ node-lines tree (listed (getD answer 1 0) tree)
+    else refused-line (getD answer 0 0) (getD answer 1 0) (getD answer 2 0) (getD answer 3 0)

@@ -1,0 +1,47 @@
+// How many groups and lists stand above a node.
+
+use reader::nodes::BRACKETS_NODE;
+use reader::nodes::LIST_NODE;
+use reader::nodes::NODE_WIDTH;
+use reader::nodes::PARENTHESES_NODE;
+ghost use mathlib.Core.Path.{_≡_};
+ghost use Prim.Native.Nat.{_+_, _*_, _≤_, _<_};
+ghost use lib.ListN.{length};
+ghost use Rattle.listing.specs.Listing.{makes-level, stands-below, level as level-of};
+
+// "Level (groups and lists above)": G, B and L count, A does not.
+fn makes_level(kind: u32) -> bool
+    ensures { λ r. ⌜ r ≡ makes-level kind ⌝ }
+{
+    match kind {
+        PARENTHESES_NODE | BRACKETS_NODE | LIST_NODE => true,
+        _ => false,
+    }
+}
+
+// Whether `node` stands below the group or list that is node number `above`.
+fn stands_below(tree: &[u32], above: usize, node: usize) -> bool
+    requires { ⌜ 3 * above + 3 ≤ length (now tree) ⌝ }
+    ensures { λ r. ⌜ r ≡ stands-below (now (tree .entry)) above node ⌝ }
+{
+    if makes_level(tree[NODE_WIDTH * above]) {
+        let extent = tree[NODE_WIDTH * above + 2] as usize;
+        return node < above + extent;
+    }
+    false
+}
+
+pub fn level(tree: &[u32], node: usize) -> usize
+    requires { ⌜ 3 * node ≤ length (now tree) ⌝ }
+    ensures { λ r. ⌜ r ≡ level-of (now (tree .entry)) node ⌝ }
+{
+    let mut count = 0;
+    let mut above = 0;
+    while above < node {
+        if stands_below(tree, above, node) {
+            count += 1;
+        }
+        above += 1;
+    }
+    count
+}

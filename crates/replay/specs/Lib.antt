@@ -1,0 +1,4 @@
+pub mod Replay
+pub mod Report
+pub mod Laws
+pub mod Examples

@@ -1,0 +1,28 @@
+-- What the program `replay` prints.
+-- Assumes nothing.
+use Prim.Native.Nat.{ℕ}
+use mathlib.Core.List.{List, [], _∷_, _++_}
+use Rattle.rows.specs.Words.{bytes}
+use Rattle.text.specs.Text.{decimal}
+
+-- A number behind its label.
+unfoldable pub labelled : List ℕ → ℕ → List ℕ
+labelled label n = label ++ decimal n
+
+-- Which number: the case, the part and the place in it.
+unfoldable pub place-text : (case : ℕ) (part : List ℕ) (place : ℕ) → List ℕ
+unfolding bytes
+place-text case part place = labelled (bytes "case ") case ++ bytes ", " ++ part ++ labelled (bytes " ") place
+
+unfoldable pub values-text : (expected given : ℕ) → List ℕ
+unfolding bytes
+values-text expected given = labelled (bytes ": expected ") expected ++ labelled (bytes ", got ") given ++ bytes "\n"
+
+-- The line for a case that differs.
+unfoldable pub difference : (case : ℕ) (part : List ℕ) (place expected given : ℕ) → List ℕ
+difference case part place expected given = place-text case part place ++ values-text expected given
+
+-- The last line.
+unfoldable pub total : (replayed differing : ℕ) → List ℕ
+unfolding bytes
+total replayed differing = decimal replayed ++ bytes " replayed, " ++ decimal differing ++ bytes " differ\n"

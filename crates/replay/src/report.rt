@@ -1,0 +1,86 @@
+// What `replay` prints.
+
+use libc::STDOUT_FILENO;
+use text::put_bytes;
+use text::put_decimal;
+ghost use mathlib.Core.Path.{_≡_};
+ghost use Prim.Native.Nat.{_+_, _≤_};
+ghost use lib.ListN.{length};
+ghost use Rattle.text.specs.Text.{Appended};
+ghost use Rattle.replay.specs.Report.{difference, labelled, place-text, total, values-text};
+
+const LINE_LENGTH: usize = 128;
+
+// A number behind its label.
+fn put_labelled(text: &mut [u8], at: usize, label: &[u8], number: usize) -> usize
+    requires { ⌜ at + length (now label) + 20 ≤ length (now text) ⌝ }
+    ensures { λ r. ⌜ Appended (now (text .entry)) at (labelled (now (label .entry)) number) r (now (text .exit)) ⌝ }
+{
+    let after_label = put_bytes(text, at, label);
+    put_decimal(text, after_label, number)
+}
+
+fn put_place(text: &mut [u8], case: usize, part: &[u8], place: usize) -> usize
+    requires { ⌜ (56 ≤ length (now text)) × (length (now part) ≤ 8) ⌝ }
+    ensures { λ r. ⌜ Appended (now (text .entry)) 0 (place-text case (now (part .entry)) place) r (now (text .exit)) ⌝ }
+{
+    let after_case = put_labelled(text, 0, b"case ", case);
+    let after_comma = put_bytes(text, after_case, b", ");
+    let after_part = put_bytes(text, after_comma, part);
+    put_labelled(text, after_part, b" ", place)
+}
+
+fn put_values(text: &mut [u8], at: usize, expected: u32, given: u32) -> usize
+    requires { ⌜ at + 58 ≤ length (now text) ⌝ }
+    ensures { λ r. ⌜ Appended (now (text .entry)) at (values-text expected given) r (now (text .exit)) ⌝ }
+{
+    let after_expected = put_labelled(text, at, b": expected ", expected as usize);
+    let after_given = put_labelled(text, after_expected, b", got ", given as usize);
+    put_bytes(text, after_given, b"\n")
+}
+
+// `case 7, buffer 3: expected 1, got 0`: number 3 of the buffer after case 7, both counted from 0.
+fn put_difference(
+    text: &mut [u8],
+    case: usize,
+    part: &[u8],
+    place: usize,
+    expected: u32,
+    given: u32,
+) -> usize
+    requires { ⌜ (128 ≤ length (now text)) × (length (now part) ≤ 8) ⌝ }
+    ensures { λ r. ⌜ Appended (now (text .entry)) 0 (difference case (now (part .entry)) place expected given) r (now (text .exit)) ⌝ }
+    ensures within { λ r. ⌜ r ≤ 128 ⌝ }
+{
+    let at = put_place(text, case, part, place);
+    put_values(text, at, expected, given)
+}
+
+pub fn print_difference(case: usize, part: &[u8], place: usize, expected: u32, given: u32)
+    requires { ⌜ length (now part) ≤ 8 ⌝ }
+{
+    let mut text = [0u8; LINE_LENGTH];
+    let end = put_difference(&mut text, case, part, place, expected, given);
+    io::write_all(STDOUT_FILENO, &text[..end]);
+}
+
+fn put_total(text: &mut [u8], replayed: usize, differing: usize) -> usize
+    requires { ⌜ 128 ≤ length (now text) ⌝ }
+    ensures { λ r. ⌜ Appended (now (text .entry)) 0 (total replayed differing) r (now (text .exit)) ⌝ }
+    ensures within { λ r. ⌜ r ≤ 128 ⌝ }
+{
+    let after_number = put_decimal(text, 0, replayed);
+    let after_replayed = put_bytes(text, after_number, b" replayed, ");
+    let after_differing = put_decimal(text, after_replayed, differing);
+    put_bytes(text, after_differing, b" differ\n")
+}
+
+pub fn print_total(replayed: usize, differing: usize) {
+    let mut text = [0u8; LINE_LENGTH];
+    let end = put_total(&mut text, replayed, differing);
+    io::write_all(STDOUT_FILENO, &text[..end]);
+}
+
+pub fn print_cut_off() {
+    io::write_all(STDOUT_FILENO, b"the list is cut off\n");
+}

@@ -1,0 +1,125 @@
+//! The replay list: what it holds, and that the program reads this one.
+
+use std::collections::BTreeSet;
+
+use harness::format::{NUMBERS_PER_TOKEN, Row};
+use harness::replay::list;
+
+/// A case as the list has it.
+struct Stored {
+    file: Vec<u8>,
+    buffer: usize,
+    fill: u32,
+    answer: [u32; 4],
+    tree: Vec<u32>,
+    behind: u32,
+}
+
+/// Takes a list apart, written from the format's description alone.
+fn stored(list: &[u8]) -> Vec<Stored> {
+    let mut rest = list;
+    let mut cases = Vec::new();
+    while !rest.is_empty() {
+        let (head, after) = rest.split_at(36);
+        let number = |at: usize| u32::from_le_bytes(head[4 * at..4 * at + 4].try_into().unwrap());
+        let (file, after) = after.split_at(number(0) as usize);
+        let (tree, after) = after.split_at(4 * number(7) as usize);
+        cases.push(Stored {
+            file: file.to_vec(),
+            buffer: number(1) as usize,
+            fill: number(2),
+            answer: [3, 4, 5, 6].map(number),
+            tree: tree
+                .as_chunks()
+                .0
+                .iter()
+                .map(|bytes| u32::from_le_bytes(*bytes))
+                .collect(),
+            behind: number(8),
+        });
+        rest = after;
+    }
+    cases
+}
+
+/// How a number stands to another one.
+fn order(number: u64, other: u64) -> &'static str {
+    match number as i64 - other as i64 {
+        -1 => "one less",
+        0 => "equal",
+        1.. => "more",
+        _ => "less",
+    }
+}
+
+#[test]
+fn the_list_holds_every_answer_and_is_the_one_that_is_replayed() {
+    let list = list();
+    let path = concat!(env!("CARGO_MANIFEST_DIR"), "/../crates/replay/stdin");
+    assert!(
+        std::fs::read(path).unwrap() == list,
+        "write it anew: harness replay"
+    );
+    let cases = stored(&list);
+    assert!(cases.len() > 4_000);
+    let wanted = std::fs::read_to_string(path.replace("stdin", "stdout")).unwrap();
+    assert_eq!(wanted, format!("{} replayed, 0 differ\n", cases.len()));
+
+    let mut refusals = BTreeSet::new();
+    let mut details = BTreeSet::new();
+    let mut profiles = BTreeSet::new();
+    let mut buffers = BTreeSet::new();
+    let mut allowances = BTreeSet::new();
+    for case in &cases {
+        let [number, _, detail, steps] = case.answer;
+        assert_ne!(case.fill, 0);
+        let is_kept = (1..=6).contains(&number);
+        if case.buffer > case.tree.len() {
+            assert_eq!(case.behind, if is_kept { case.fill } else { 0 });
+        }
+        assert!(case.tree.is_empty() || number == 0);
+        refusals.insert(number);
+        details.insert((number, detail));
+        let Ok(row) = Row::read(&case.file) else {
+            continue;
+        };
+        let head = row.head;
+        profiles.insert((head.language, head.standard, head.flag, number == 0));
+        let needed = NUMBERS_PER_TOKEN * row.tokens.len();
+        buffers.insert((number == 0, order(case.buffer as u64, needed as u64)));
+        if number == 0 {
+            let steps = case.answer[2];
+            allowances.insert(order(head.allowance.into(), steps.into()));
+        }
+        if number == 25 {
+            assert_eq!(steps, head.allowance);
+        }
+    }
+    let every = [
+        0, 1, 2, 3, 4, 5, 6, 10, 11, 12, 13, 14, 15, 16, 17, 18, 20, 21, 22, 25, 30, 40,
+    ];
+    assert_eq!(refusals, BTreeSet::from(every));
+    assert!((0..=2).all(|detail| details.contains(&(11, detail))));
+    assert!((1..=11).all(|detail| details.contains(&(40, detail))));
+    // 18 standards and 255 in three languages, both flags, accepted and not.
+    assert_eq!(profiles.len(), (18 + 3) * 2 * 2);
+    for wanted in ["equal", "more"] {
+        assert!(buffers.contains(&(true, wanted)) && allowances.contains(wanted));
+    }
+    assert!(buffers.contains(&(false, "one less")));
+    // One step less than a row takes is 25 after as many.
+    let one_less = |case: &&Stored| {
+        let with = |allowance: u32| {
+            let mut file = case.file.clone();
+            file[7..11].copy_from_slice(&allowance.to_le_bytes());
+            file
+        };
+        case.answer[0] == 25
+            && cases.iter().any(|other| {
+                other.answer[0] == 0
+                    && other.answer[2] == case.answer[3] + 1
+                    && other.file == with(other.answer[2])
+            })
+    };
+    assert!(cases.iter().filter(one_less).count() > 10);
+}
