@@ -13,9 +13,10 @@ mod reader;
 const HELP: &str = "\
 side_by_side [--seed S] [--count N] [--style NAME]
     N generated files (default 100000, seed 1), those of the harness's styles in turn.
-side_by_side --exhaustive LONGEST
-    Every row of up to LONGEST tokens over the harness's alphabet of angles and brackets.
 ";
+
+/// Where the head has its structure flag.
+const FLAG: usize = 6;
 
 /// What the buffer holds before a call.
 const DIRT: u32 = 0xdead_beef;
@@ -47,6 +48,7 @@ fn main() -> ExitCode {
 struct Tally {
     files: u64,
     differ: u64,
+    checked: u64,
     answers: BTreeMap<String, u64>,
 }
 
@@ -56,22 +58,39 @@ impl Tally {
         let mut expected = vec![DIRT; case.tree_len];
         let answer = oracle::answer(&case.file, &mut expected);
         *self.answers.entry(kind_of(answer)).or_default() += 1;
+        let read_whole = matches!(answer.refusal(), None | Some(30) | Some(40));
+        self.checked += u64::from(read_whole && case.file.get(FLAG) == Some(&1));
         let mut tree = vec![DIRT; case.tree_len];
         let read = reader::read(&case.file, &mut tree);
-        if read.numbers != numbers_of(answer) || read.returned != read.numbers[0] || tree != expected {
+        if read.numbers != numbers_of(answer)
+            || read.returned != read.numbers[0]
+            || tree != expected
+        {
             self.differ += 1;
             if self.differ <= 10 {
                 let file: String = case.file.iter().map(|byte| format!("{byte:02x}")).collect();
-                println!("differs: {file} room {} original {answer} new {:?}", case.tree_len, read.numbers);
+                println!(
+                    "differs: {file} room {} original {answer} new {:?}",
+                    case.tree_len, read.numbers
+                );
             }
         }
     }
 
     fn report(&self) -> ExitCode {
-        let answers: Vec<String> = self.answers.iter().map(|(answer, n)| format!("{answer}: {n}")).collect();
+        let answers: Vec<String> = self
+            .answers
+            .iter()
+            .map(|(answer, n)| format!("{answer}: {n}"))
+            .collect();
         println!("{}", answers.join(", "));
+        println!("{} trees checked for structure", self.checked);
         println!("{} files, {} differ", self.files, self.differ);
-        if self.differ == 0 { ExitCode::SUCCESS } else { ExitCode::FAILURE }
+        if self.differ == 0 {
+            ExitCode::SUCCESS
+        } else {
+            ExitCode::FAILURE
+        }
     }
 }
 
