@@ -1,7 +1,7 @@
 // The known words by number, and which word a number stands for: specs/Words.antt.
 
 ghost use mathlib.Core.Path.{_≡_};
-ghost use Rattle.rows.specs.Words.{ignoring-case};
+ghost use Rattle.rows.specs.Words.{exactly, ignoring-case};
 
 pub const NO_WORD: u8 = 0;
 
@@ -91,6 +91,16 @@ pub const COMPLEX: u8 = 42;
 
 // Added to the number of a word that is known with case ignored only.
 pub const OTHER_CASE: u8 = 128;
+
+// Which known word it is exactly, by its number.
+pub fn exactly(number: u8) -> u8
+    ensures { λ r. ⌜ r ≡ exactly number ⌝ }
+{
+    if number < OTHER_CASE {
+        return number;
+    }
+    NO_WORD
+}
 
 // Which known word it is with case ignored, by its number.
 pub fn ignoring_case(number: u8) -> u8

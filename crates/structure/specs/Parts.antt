@@ -1,6 +1,5 @@
 -- The first part between commas, as the code finds it: what `split-on-commas` gives, taken one at a time. Assumes nothing.
 use Prim.Native.Nat.{ℕ}
-use mathlib.Core.Bool.{Bool, true, false}
 use mathlib.Core.List.{List}
 use lib.Dec.{eqb}
 use Rattle.rows.specs.Notation.{if_then_else_}

@@ -25,15 +25,15 @@ use crate::specifiers::exact_word;
 use crate::specifiers::validate_c_decl_specifiers;
 use crate::tables::abstract_declarator_node;
 use crate::tables::c_family_node;
-use crate::words::NO_WORD;
 use rows::kinds::STAR;
+use rows::word_numbers::NO_WORD;
 ghost use mathlib.Core.Path.{_≡_};
+ghost use mathlib.Core.Bool.{false};
 ghost use Rattle.structure.specs.Moves.{type-or-expression, arguments};
 ghost use Rattle.structure.specs.Structure.{a-type, a-declarator, an-expression, checked, validate-cpp-template-argument, validate-parameter};
 ghost use Rattle.structure.specs.Structure.{validate-parameter-type-list};
 ghost use Rattle.structure.specs.Represented.{test-of};
 ghost use Rattle.structure.specs.Stands.{Ready};
-ghost use mathlib.Core.Bool.{false};
 ghost use Rattle.structure.specs.Says.{Says, Answers, Passes, for-fortran};
 
 pub fn validate_c_family_type(
@@ -76,14 +76,11 @@ pub fn validate_c_family_type(
             }
             TypeMove::Inside(inner, next) => {
                 let said = test(language, tree, kinds, words, inner, at + 1, end, left);
-                match said {
-                    Verdict::Holds(steps) => {
-                        left = steps;
-                        st = next;
-                    }
-                    Verdict::Fails(steps) => return Verdict::Fails(steps),
-                    Verdict::Spent => return Verdict::Spent,
-                }
+                let Verdict::Holds(steps) = said else {
+                    return said;
+                };
+                left = steps;
+                st = next;
             }
         }
         before = shape;
@@ -138,25 +135,19 @@ fn validate_abstract_declarator(
                             end,
                             left,
                         );
-                        match said {
-                            Verdict::Holds(steps) => {
-                                left = steps;
-                                st = next;
-                            }
-                            Verdict::Fails(steps) => return Verdict::Fails(steps),
-                            Verdict::Spent => return Verdict::Spent,
-                        }
+                        let Verdict::Holds(steps) = said else {
+                            return said;
+                        };
+                        left = steps;
+                        st = next;
                     }
                     _ => {
                         let said = test(language, tree, kinds, words, inner, at + 1, end, left);
-                        match said {
-                            Verdict::Holds(steps) => {
-                                left = steps;
-                                st = next;
-                            }
-                            Verdict::Fails(steps) => return Verdict::Fails(steps),
-                            Verdict::Spent => return Verdict::Spent,
-                        }
+                        let Verdict::Holds(steps) = said else {
+                            return said;
+                        };
+                        left = steps;
+                        st = next;
                     }
                 }
             }
@@ -200,14 +191,11 @@ pub fn validate_expression(
             }
             ExpressionMove::Inside(inner, next) => {
                 let said = test(language, tree, kinds, words, inner, at + 1, end, left);
-                match said {
-                    Verdict::Holds(steps) => {
-                        left = steps;
-                        st = next;
-                    }
-                    Verdict::Fails(steps) => return Verdict::Fails(steps),
-                    Verdict::Spent => return Verdict::Spent,
-                }
+                let Verdict::Holds(steps) = said else {
+                    return said;
+                };
+                left = steps;
+                st = next;
             }
         }
         at = end;
@@ -215,7 +203,7 @@ pub fn validate_expression(
     plain(expression_end(st), left)
 }
 
-// What is asked of the nodes below a node, in all types but those of Fortran.
+// What is asked of the nodes below a node. Selectors are asked of in Fortran's types alone, and not here.
 fn test(
     language: u8,
     tree: &[u32],
@@ -230,24 +218,12 @@ fn test(
     ensures { λ r. ⌜ Passes language (now (tree .entry)) (now (kinds .entry)) (now (words .entry)) from to allowed (test-of inner) r ⌝ }
 {
     match inner {
-        Inner::TypeName => return validate_c_family_type(
-            language,
-            tree,
-            kinds,
-            words,
-            from,
-            to,
-            allowed,
-        ),
-        Inner::Expression => return validate_expression(
-            language,
-            tree,
-            kinds,
-            words,
-            from,
-            to,
-            allowed,
-        ),
+        Inner::TypeName => {
+            return validate_c_family_type(language, tree, kinds, words, from, to, allowed);
+        }
+        Inner::Expression => {
+            return validate_expression(language, tree, kinds, words, from, to, allowed);
+        }
         Inner::SomeExpression => {
             if from == to {
                 return Verdict::Fails(allowed);
@@ -270,15 +246,9 @@ fn test(
             }
             return validate_expression(language, tree, kinds, words, from, to, allowed);
         }
-        Inner::Declarator => return validate_abstract_declarator(
-            language,
-            tree,
-            kinds,
-            words,
-            from,
-            to,
-            allowed,
-        ),
+        Inner::Declarator => {
+            return validate_abstract_declarator(language, tree, kinds, words, from, to, allowed);
+        }
         Inner::Arguments => return arguments(language, tree, kinds, words, from, to, allowed),
         Inner::Selectors => return Verdict::Spent,
         Inner::DeclaratorOrParameters(word) => {
@@ -301,7 +271,7 @@ fn test(
     }
 }
 
-// `||`: the steps of the first try stay counted.
+// A type, or else an expression; the steps of the first try stay counted.
 fn either(
     language: u8,
     tree: &[u32],
@@ -315,13 +285,10 @@ fn either(
     ensures { λ r. ⌜ Passes language (now (tree .entry)) (now (kinds .entry)) (now (words .entry)) from to allowed type-or-expression r ⌝ }
 {
     let said = validate_c_family_type(language, tree, kinds, words, from, to, allowed);
-    match said {
-        Verdict::Holds(steps) => return Verdict::Holds(steps),
-        Verdict::Fails(steps) => {
-            return validate_expression(language, tree, kinds, words, from, to, steps);
-        }
-        Verdict::Spent => return Verdict::Spent,
-    }
+    let Verdict::Fails(steps) = said else {
+        return said;
+    };
+    validate_expression(language, tree, kinds, words, from, to, steps)
 }
 
 fn validate_cpp_template_argument(
@@ -360,13 +327,10 @@ fn arguments(
     while at < to {
         let end = node_end(tree, kinds, at, to);
         let said = validate_cpp_template_argument(language, tree, kinds, words, at + 1, end, left);
-        match said {
-            Verdict::Holds(steps) => {
-                left = steps;
-            }
-            Verdict::Fails(steps) => return Verdict::Fails(steps),
-            Verdict::Spent => return Verdict::Spent,
-        }
+        let Verdict::Holds(steps) = said else {
+            return said;
+        };
+        left = steps;
         at = end;
     }
     Verdict::Holds(left)
@@ -413,13 +377,10 @@ fn validate_parameter_type_list(
     loop {
         let end = part_end(tree, kinds, at, to);
         let said = parameter(language, tree, kinds, words, at, end, left);
-        match said {
-            Verdict::Holds(steps) => {
-                left = steps;
-            }
-            Verdict::Fails(steps) => return Verdict::Fails(steps),
-            Verdict::Spent => return Verdict::Spent,
-        }
+        let Verdict::Holds(steps) = said else {
+            return said;
+        };
+        left = steps;
         if end == to {
             return Verdict::Holds(left);
         }

@@ -15,13 +15,12 @@ use crate::selectors::validate_fortran_selector_list;
 use crate::sets::is_derived_type_word;
 use crate::sets::is_word_after_double;
 use crate::shapes::PARENTHESIZED;
-use crate::words::DOUBLE;
-use crate::words::OTHER_CASE;
 use rows::kinds::IDENTIFIER;
 use rows::kinds::INTEGER;
 use rows::kinds::STAR;
+use rows::word_numbers::DOUBLE;
+use rows::word_numbers::ignoring_case;
 ghost use mathlib.Core.Path.{_≡_};
-ghost use Rattle.rows.specs.Words.{ignoring-case};
 ghost use Rattle.structure.specs.FortranTypes.{fortran-node, fortran-head, validate-fortran-type-head};
 ghost use Rattle.structure.specs.Represented.{fortran-move-of, fortran-state-of};
 ghost use Rattle.structure.specs.Structure.{validate-fortran-type};
@@ -53,16 +52,6 @@ pub fn fortran_node(shape: u8, last: bool, st: FortranLoop) -> FortranMove
         return FortranMove::Stop(true);
     }
     FortranMove::Stop(false)
-}
-
-// Which known word it is with case ignored, by its number.
-fn ignoring_case(number: u8) -> u8
-    ensures { λ r. ⌜ r ≡ ignoring-case number ⌝ }
-{
-    if number < OTHER_CASE {
-        return number;
-    }
-    number - OTHER_CASE
 }
 
 // `second`: the word after it.
@@ -150,14 +139,11 @@ pub fn validate_fortran_type(
                     end,
                     left,
                 );
-                match said {
-                    Verdict::Holds(steps) => {
-                        left = steps;
-                        st = next;
-                    }
-                    Verdict::Fails(steps) => return Verdict::Fails(steps),
-                    Verdict::Spent => return Verdict::Spent,
-                }
+                let Verdict::Holds(steps) = said else {
+                    return said;
+                };
+                left = steps;
+                st = next;
             }
         }
         at = end;

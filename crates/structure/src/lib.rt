@@ -13,4 +13,3 @@ pub mod shapes;
 pub mod specifiers;
 pub mod syntax;
 pub mod tables;
-pub mod words;

@@ -2,7 +2,6 @@
 
 use crate::sets::is_declarator_start;
 use crate::shapes::NO_NODE;
-use crate::words::NO_WORD;
 use reader::nodes::NODE_WIDTH;
 use reader::nodes::TOKEN_NODE;
 use rows::kinds::COMMA;
@@ -10,6 +9,7 @@ use rows::kinds::DOT;
 use rows::kinds::IDENTIFIER;
 use rows::kinds::SCOPE;
 use rows::kinds::STAR;
+use rows::word_numbers::NO_WORD;
 ghost use mathlib.Core.Path.{_≡_};
 ghost use Prim.Native.Nat.{_+_, _<_, suc};
 ghost use Rattle.reader.specs.Nodes.{count};

@@ -85,13 +85,10 @@ pub fn validate_fortran_selector_list(
     loop {
         let end = part_end(tree, kinds, at, to);
         let said = validate_fortran_selector(language, tree, kinds, words, at, end, left);
-        match said {
-            Verdict::Holds(steps) => {
-                left = steps;
-            }
-            Verdict::Fails(steps) => return Verdict::Fails(steps),
-            Verdict::Spent => return Verdict::Spent,
-        }
+        let Verdict::Holds(steps) = said else {
+            return said;
+        };
+        left = steps;
         if end == to {
             return Verdict::Holds(left);
         }

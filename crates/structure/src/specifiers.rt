@@ -17,13 +17,13 @@ use crate::sets::is_parenthesis_word;
 use crate::sets::is_sign;
 use crate::shapes::PARENTHESIZED;
 use crate::shapes::TEMPLATE_ARGUMENTS;
-use crate::words::BIT_INT;
-use crate::words::NO_WORD;
-use crate::words::OTHER_CASE;
 use rows::kinds::IDENTIFIER;
 use rows::kinds::SCOPE;
 use rows::languages::C;
 use rows::languages::CPP;
+use rows::word_numbers::BIT_INT;
+use rows::word_numbers::NO_WORD;
+use rows::word_numbers::exactly;
 ghost use mathlib.Core.Path.{_≡_};
 ghost use Prim.Native.Nat.{_<_};
 ghost use lib.Dec.{eqb};
@@ -63,16 +63,6 @@ pub enum SpecifierMove {
     Stop(bool),
     On(SpecifierFlags),
     Count(u8, SpecifierFlags),
-}
-
-// Which known word it is exactly, by its number.
-fn exactly(number: u8) -> u8
-    ensures { λ r. ⌜ r ≡ exactly number ⌝ }
-{
-    if number < OTHER_CASE {
-        return number;
-    }
-    NO_WORD
 }
 
 // Which known word the node at a place is exactly.

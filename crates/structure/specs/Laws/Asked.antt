@@ -13,8 +13,8 @@ use Rattle.structure.specs.Moves.{Test, type-name, expression, some-expr
 use Rattle.structure.specs.Declarators.{TypeState, type-state, c-family-group, c-family-node, DeclaratorState, declarator-state, abstract-declarator-node}
 use Rattle.structure.specs.Expressions.{ExpressionState, expression-state, expression-node}
 use Rattle.structure.specs.FortranTypes.{FortranState, fortran-state, fortran-node}
-use Rattle.structure.specs.Structure.{checked, test, validate-fortran-selector-list}
-use Rattle.structure.specs.Says.{Says, Answers, Passes, for-fortran}
+use Rattle.structure.specs.Structure.{test, validate-fortran-selector-list}
+use Rattle.structure.specs.Says.{Answers, Passes, for-fortran}
 use Rattle.structure.specs.Represented.{test-of}
 use Rattle.structure.specs.declared.moves.Verdict.{Verdict}
 use Rattle.structure.specs.declared.moves.Inner.{Inner}

@@ -3,7 +3,6 @@ use Prim.Native.Nat.{ℕ, suc, _+_, _≤_, _<_}
 use mathlib.Core.Path.{_≡_, refl, sym, ap, _∙_, subst}
 use mathlib.Core.Bool.{Bool, true, false}
 use mathlib.Core.List.{List}
-use native.Mathlib.Omega.{arith}
 use Rattle.rows.specs.Kinds.{Integer}
 use Rattle.rows.specs.Words.{no-word, exactly}
 use Rattle.reader.specs.Nodes.{Nodes, count}

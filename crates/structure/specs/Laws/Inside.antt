@@ -4,15 +4,13 @@ use Prim.Native.Nat.{ℕ, suc, _+_, _<_}
 use mathlib.Core.Path.{_≡_, refl, sym, ap, _∙_, subst}
 use mathlib.Core.Bool.{Bool, true, false, not, _&&_, _||_}
 use mathlib.Core.List.{List}
-use Rattle.rows.specs.Notation.{if_then_else_}
-use lib.Dec.{eqb}
 use borrow.Author.Tests.{eq-eqb, ne-eqb}
 use Rattle.rows.specs.Kinds.{Identifier, Equal, Star, Colon}
-use Rattle.reader.specs.Nodes.{Nodes, none, node, count}
+use Rattle.reader.specs.Nodes.{Nodes, count}
 use Rattle.structure.specs.Shapes.{empty, next, shape, is-single-token, split-on-commas, parts-are-full}
 use Rattle.structure.specs.Moves.{Said, both, either, plain, every, declarator, declarator-or-parameters}
 use Rattle.structure.specs.Declarators.{looks-like-abstract-declarator}
-use Rattle.structure.specs.Structure.{a-type, an-expression, a-declarator, checked, test, validate-parameter-type-list}
+use Rattle.structure.specs.Structure.{a-declarator, checked, test, validate-parameter-type-list}
 use Rattle.structure.specs.Structure.{validate-parameter, validate-fortran-selector, validate-fortran-selector-value, validate-fortran-selector-list}
 use Rattle.structure.specs.Stands.{Stands, ends, here, Of, below}
 use Rattle.structure.specs.Represented.{test-of}
@@ -20,9 +18,9 @@ use Rattle.structure.specs.Allowance.{limited}
 use Rattle.structure.specs.Says.{Says, Answers, Passes}
 use Rattle.structure.specs.Laws.Ranges.{empty-range}
 use Rattle.structure.specs.Laws.Commas.{stands-next}
-use Rattle.structure.specs.Laws.Limits.{on-holds, on-fails, limited-both, limited-either, limited-yes, limited-no}
+use Rattle.structure.specs.Laws.Limits.{on-holds, on-fails, Settles, limited-both, limited-either, limited-yes, limited-no}
 use Rattle.structure.specs.declared.moves.Verdict.{Verdict}
-use Rattle.structure.specs.declared.moves.Verdict.the-variants.{Holds, Fails, Spent}
+use Rattle.structure.specs.declared.moves.Verdict.the-variants.{Holds, Fails}
 use Rattle.structure.specs.declared.moves.Inner.{Inner}
 
 -- ---- a test without steps, and a check
@@ -94,13 +92,8 @@ module _ {tree kinds : List ℕ} {from to left : ℕ} {what : Nodes → Said} wh
     tried : (x : Nodes) → Stands tree kinds from to x → limited left (what x) ≡ on-fails v (λ l. limited l (g x))
     tried x s = rw (e x) (limited-either left _ _ ∙ rw (← sv .says x s))
 
-    pub first-holds : {l : ℕ} → v ≡ Holds l → Says tree kinds from to left what (Holds l)
-    unfolding on-fails
-    first-holds q = record { says = λ x s. sym (tried x s ∙ rw q) }
-
-    pub first-spent : v ≡ Spent → Says tree kinds from to left what Spent
-    unfolding on-fails
-    first-spent q = record { says = λ x s. sym (tried x s ∙ rw q) }
+    pub first-settles : Settles v → Says tree kinds from to left what v
+    first-settles q = record { says = λ x s. sym (tried x s ∙ q .settles _) }
 
     pub then-second : {l : ℕ} {u : Verdict} → v ≡ Fails l → Says tree kinds from to l g u → Says tree kinds from to left what u
     unfolding on-fails

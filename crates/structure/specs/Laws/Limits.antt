@@ -2,6 +2,9 @@
 use Prim.Native.Nat.{ℕ, _+_, _-_, _≤_, _<_}
 use mathlib.Core.Path.{_≡_, refl, sym, ap, _∙_}
 use mathlib.Core.Bool.{Bool, true, false}
+use mathlib.Core.Logic.{⊎-elim}
+use mathlib.Core.List.{[], _∷_}
+use types.Run.{OneOf}
 use native.Mathlib.Omega.{arith}
 use native.Mathlib.Decide.{decLe}
 use lib.Dec.{leb}
@@ -22,6 +25,27 @@ unfoldable pub on-fails : Verdict → (ℕ → Verdict) → Verdict
 on-fails (Holds left) f = Holds left
 on-fails (Fails left) f = f left
 on-fails Spent f = Spent
+
+-- No step, or no second try, follows such an answer.
+pub record Stops (v : Verdict) : Type 0 where
+  pub stops : (f : ℕ → Verdict) → on-holds v f ≡ v
+
+pub record Settles (v : Verdict) : Type 0 where
+  pub settles : (f : ℕ → Verdict) → on-fails v f ≡ v
+
+-- Code that looks for one case by `let .. else` knows of the others by their tags.
+module _ (tag : Verdict → ℕ) where
+  pub not-holds : ((l : ℕ) → tag (Holds l) ≡ 0) → (v : Verdict) → OneOf (1 ∷ 2 ∷ []) (tag v) → Stops v
+  unfolding on-holds
+  not-holds z (Holds l) o = ⊎-elim (λ e. absurd (omega (arith, z l, e))) (λ e. absurd (omega (arith, z l, e))) o
+  not-holds z (Fails l) o = record { stops = λ f. refl }
+  not-holds z Spent o = record { stops = λ f. refl }
+
+  pub not-fails : ((l : ℕ) → tag (Fails l) ≡ 1) → (v : Verdict) → OneOf (0 ∷ 2 ∷ []) (tag v) → Settles v
+  unfolding on-fails
+  not-fails z (Fails l) o = ⊎-elim (λ e. absurd (omega (arith, z l, e))) (λ e. absurd (omega (arith, z l, e))) o
+  not-fails z (Holds l) o = record { settles = λ f. refl }
+  not-fails z Spent o = record { settles = λ f. refl }
 
 pub limited-after : (left m : ℕ) (s : Said) → limited left (after m s) ≡ if leb m left then limited (left - m) s else Spent
 unfolding limited after

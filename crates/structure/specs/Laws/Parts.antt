@@ -9,7 +9,7 @@ use lib.Dec.{eqb}
 use borrow.Author.Tests.{eq-eqb, ne-eqb}
 use Rattle.rows.specs.Notation.{if_then_else_}
 use Rattle.rows.specs.Kinds.{Comma}
-use Rattle.reader.specs.Nodes.{NodeKind, number, Nodes, none, node, count}
+use Rattle.reader.specs.Nodes.{Nodes, none, node, count}
 use Rattle.structure.specs.Shapes.{empty, next, shape, prepend, split-on-commas, arguments-of}
 use Rattle.structure.specs.Moves.{Said, both, plain, every}
 use Rattle.structure.specs.Stands.{Stands, ends, here, Formed, Ready, Of, below}

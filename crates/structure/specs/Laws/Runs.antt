@@ -1,6 +1,6 @@
 -- The loops of the checks, laws of `run`: one set for all four loops of the code. Assumes nothing.
 use Prim.Native.Nat.{ℕ, suc, _+_, _-_, _≤_, _<_}
-use mathlib.Core.Path.{_≡_, refl, sym, ap, _∙_}
+use mathlib.Core.Path.{_≡_, refl, sym, _∙_}
 use mathlib.Core.Bool.{Bool, true, false, true≢false}
 use mathlib.Core.List.{List}
 use native.Mathlib.Omega.{arith}
@@ -13,8 +13,8 @@ use Rattle.structure.specs.Stands.{Stands, Formed, Of, below}
 use Rattle.structure.specs.Allowance.{limited}
 use Rattle.structure.specs.Says.{Says, Passes}
 use Rattle.structure.specs.Laws.Ranges.{first, nothing-left}
-use Rattle.structure.specs.Laws.Limits.{limited-entry, limited-none, limited-yes, limited-no, limited-both, on-holds}
-use Rattle.structure.specs.Laws.Walks.{Walk, Turn, walk-start, walk-ends, walk-on, walk-fails, walk-spent, walk-holds, after-it, below-it, walk-further}
+use Rattle.structure.specs.Laws.Limits.{limited-entry, limited-none, limited-yes, limited-no, limited-both, on-holds, Stops}
+use Rattle.structure.specs.Laws.Walks.{Walk, Turn, walk-start, walk-ends, walk-on, walk-stops, walk-holds, after-it, below-it, walk-further}
 use Rattle.structure.specs.declared.moves.Verdict.{Verdict}
 use Rattle.structure.specs.declared.moves.Verdict.the-variants.{Holds, Fails, Spent}
 
@@ -127,11 +127,8 @@ module _ {lang : ℕ} {kinds words : List ℕ} {S : Type 0} {move : (left lw : �
             is = turn-inside lang kinds words S move done (lp .walk .rest) (lp .left-shape) (lp .left-word) st full-here t st′ q;
           }
 
-          pub run-fails : {m : ℕ} → v ≡ Fails m → Says tree kinds from to allowed whole (Fails m)
-          run-fails f = walk-fails (lp .walk) turned sv f
-
-          pub run-spent : v ≡ Spent → Says tree kinds from to allowed whole Spent
-          run-spent f = walk-spent (lp .walk) turned sv f
+          pub run-stops : Stops v → Says tree kinds from to allowed whole v
+          run-stops f = walk-stops (lp .walk) turned sv f
 
           pub run-inside : {m : ℕ} {knows′ : (left lw : ℕ) → Type 0} → v ≡ Holds m
               → knows′ (shape kinds (lp .walk .rest)) (node-identifier kinds words (lp .walk .rest))

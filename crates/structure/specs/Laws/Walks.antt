@@ -1,7 +1,7 @@
 -- A walk over the nodes of a level under an allowance, whatever is done at each node. Assumes nothing.
-use Prim.Native.Nat.{ℕ, suc, _+_, _-_, _*_, _≤_, _<_}
-use mathlib.Core.Path.{_≡_, refl, sym, ap, _∙_, subst}
-use mathlib.Core.Bool.{Bool, true, false}
+use Prim.Native.Nat.{ℕ, suc, _+_, _*_, _≤_, _<_}
+use mathlib.Core.Path.{_≡_, sym, ap, _∙_, subst}
+use mathlib.Core.Bool.{Bool}
 use mathlib.Core.List.{List}
 use native.Mathlib.Omega.{arith}
 use native.Mathlib.Numerals.{add-one}
@@ -13,9 +13,9 @@ use Rattle.structure.specs.Stands.{Stands, Formed, Ready, Of, below}
 use Rattle.structure.specs.Allowance.{limited}
 use Rattle.structure.specs.Says.{Says}
 use Rattle.structure.specs.Laws.Ranges.{first, unique}
-use Rattle.structure.specs.Laws.Limits.{on-holds, limited-both}
+use Rattle.structure.specs.Laws.Limits.{on-holds, Stops, limited-both}
 use Rattle.structure.specs.declared.moves.Verdict.{Verdict}
-use Rattle.structure.specs.declared.moves.Verdict.the-variants.{Holds, Fails, Spent}
+use Rattle.structure.specs.declared.moves.Verdict.the-variants.{Holds}
 
 -- The check `whole` of all the nodes, with the steps allowed, comes to what `todo` of the nodes from `at` on does with the steps that are left.
 pub record Walk (tree kinds : List ℕ) (whole : Nodes → Said) (from to allowed left : ℕ) (todo : Nodes → Said) (at : ℕ) : Type 0 where
@@ -78,13 +78,8 @@ module _ {tree kinds : List ℕ} {whole : Nodes → Said} {from to allowed : ℕ
       gone : limited left (todo (lp .rest)) ≡ on-holds v (λ m. limited m (todo′ (t .after)))
       gone = ap (limited left) (t .is) ∙ limited-both left _ _ ∙ rw (← sv .says (t .part) (t .part-stands))
 
-      pub walk-fails : {m : ℕ} → v ≡ Fails m → Says tree kinds from to allowed whole (Fails m)
-      unfolding on-holds
-      walk-fails q = record { says = λ x u. sym (lp .is x u ∙ gone ∙ rw q) }
-
-      pub walk-spent : v ≡ Spent → Says tree kinds from to allowed whole Spent
-      unfolding on-holds
-      walk-spent q = record { says = λ x u. sym (lp .is x u ∙ gone ∙ rw q) }
+      pub walk-stops : Stops v → Says tree kinds from to allowed whole v
+      walk-stops q = record { says = λ x u. sym (lp .is x u ∙ gone ∙ q .stops _) }
 
       pub walk-holds : {m : ℕ} → v ≡ Holds m → Walk tree kinds whole from to allowed m todo′ at′
       unfolding on-holds

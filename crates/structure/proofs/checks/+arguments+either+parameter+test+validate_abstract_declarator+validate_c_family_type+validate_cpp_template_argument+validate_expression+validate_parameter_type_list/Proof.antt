@@ -6,16 +6,19 @@ use mathlib.Core.Path.{_≡_, refl, sym, _∙_}
 use native.Mathlib.Omega.{arith}
 use borrow.Author.Needs.{needs}
 use borrow.Author.Tests.{not-true, not-false}
+use denote.Enum.Declared.{tagOf}
+use Rattle.structure.proofs.moves.Verdict.{the-type}
 use Rattle.structure.specs.Moves.{arguments}
 use Rattle.structure.specs.Declarators.{type-end, declarator-end}
 use Rattle.structure.specs.Structure.{checked, test, validate-cpp-template-argument, validate-parameter, validate-parameter-type-list}
-use Rattle.structure.specs.Laws.Walks.{walk-start, walk-formed, walk-fails, walk-spent, walk-holds, walk-further, walk-fits, walk-below, walk-after}
-use Rattle.structure.specs.Laws.Runs.{entry-spent, entry, head-fails, head-holds, run-start, run-end, run-stop, run-on, run-fails, run-spent, run-inside}
+use Rattle.structure.specs.Laws.Limits.{not-holds, not-fails}
+use Rattle.structure.specs.Laws.Walks.{walk-start, walk-formed, walk-stops, walk-holds, walk-further, walk-fits, walk-below, walk-after}
+use Rattle.structure.specs.Laws.Runs.{entry-spent, entry, head-fails, head-holds, run-start, run-end, run-stop, run-on, run-stops, run-inside}
 use Rattle.structure.specs.Laws.Checks.{InType, InDeclarator, InExpression, type-entry, declarator-entry, expression-entry, no-word-before, type-moved}
 use Rattle.structure.specs.Laws.Checks.{declarator-moved, expression-moved, waits-on, waits-inside}
 use Rattle.structure.specs.Laws.Asked.{asked, type-asks, declarator-asks, expression-asks, not-selectors}
 use Rattle.structure.specs.Laws.Inside.{empty-of, full-of, no-node, some-node, no-bound, bound-of, by-name, either-held, either-else, both-failed, both-then}
-use Rattle.structure.specs.Laws.Inside.{first-holds, first-spent, then-second, told, inside-declarator, group-declarator, group-parameters, parameters-start}
+use Rattle.structure.specs.Laws.Inside.{first-settles, then-second, told, inside-declarator, group-declarator, group-parameters, parameters-start}
 use Rattle.structure.specs.Laws.Parts.{InParts, InArguments, parts-past, parts-fit, parts-ready, parts-comma, parts-turn, parts-last, parts-next, arguments-end}
 use Rattle.structure.specs.Laws.Parts.{arguments-turn}
 use Prim.Native.Nat.{ℕ, _<_}
@@ -229,17 +232,8 @@ arguments-validate-cpp-template-argument-requires t c κs = (omega (arith, walk-
 arguments-enum-known-said : (t : ℕ) → arguments-lts.Need-enum-known-said (arguments-calls t) (arguments-at t) arguments.Post arguments-Inv-loop arguments-μ-loop
 arguments-enum-known-said t c = search needs
 
-arguments-enum-known-said-2 : (t : ℕ) → arguments-lts.Need-enum-known-said-2 (arguments-calls t) (arguments-at t) arguments.Post arguments-Inv-loop arguments-μ-loop
-arguments-enum-known-said-2 t c = search needs
-
 arguments-returns : (t : ℕ) → arguments-lts.Need-returns (arguments-calls t) (arguments-at t) arguments.Post arguments-Inv-loop arguments-μ-loop
-arguments-returns t c = walk-fails (c .before .before .before .before .before .before .loop .inv) (arguments-turn _ (c .before .before .before .before .before .before .loop .inv) (omega arith) (c .before .before .before .before .node-end .ensures)) (c .before .before .before .validate-cpp-template-argument .ensures) (c .before .said2 .given .1)
-
-arguments-enum-told : (t : ℕ) → arguments-lts.Need-enum-told (arguments-calls t) (arguments-at t) arguments.Post arguments-Inv-loop arguments-μ-loop
-arguments-enum-told t c = search needs
-
-arguments-returns-2 : (t : ℕ) → arguments-lts.Need-returns-2 (arguments-calls t) (arguments-at t) arguments.Post arguments-Inv-loop arguments-μ-loop
-arguments-returns-2 t c = walk-spent (c .before .before .before .before .before .loop .inv) (arguments-turn _ (c .before .before .before .before .before .loop .inv) (omega arith) (c .before .before .before .node-end .ensures)) (c .before .before .validate-cpp-template-argument .ensures) (c .enum-told .given .1)
+arguments-returns t c = walk-stops (c .before .before .before .before .loop .inv) (arguments-turn _ (c .before .before .before .before .loop .inv) (omega arith) (c .before .before .node-end .ensures)) (c .before .validate-cpp-template-argument .ensures) (not-holds (tagOf the-type) (λ l. refl) _ (c .match .keys2))
 
 arguments-loop-less : (t : ℕ) → arguments-lts.Need-loop-less (arguments-calls t) (arguments-at t) arguments.Post arguments-Inv-loop arguments-μ-loop
 arguments-loop-less t c = omega (arith, walk-further (c .before .before .before .before .before .before .loop .inv) (omega arith) (c .before .before .before .before .node-end .ensures), walk-fits (c .before .before .before .before .before .before .loop .inv) (omega arith) (c .before .before .before .before .node-end .ensures))
@@ -247,8 +241,8 @@ arguments-loop-less t c = omega (arith, walk-further (c .before .before .before 
 arguments-loop-again : (t : ℕ) → arguments-lts.Need-loop-again (arguments-calls t) (arguments-at t) arguments.Post arguments-Inv-loop arguments-μ-loop
 arguments-loop-again t c = walk-holds (c .before .before .before .before .before .before .loop .inv) (arguments-turn _ (c .before .before .before .before .before .before .loop .inv) (omega arith) (c .before .before .before .before .node-end .ensures)) (c .before .before .before .validate-cpp-template-argument .ensures) (c .before .said .given .1)
 
-arguments-returns-3 : (t : ℕ) → arguments-lts.Need-returns-3 (arguments-calls t) (arguments-at t) arguments.Post arguments-Inv-loop arguments-μ-loop
-arguments-returns-3 t c = arguments-end _ (c .before .loop .inv) (omega arith)
+arguments-returns-2 : (t : ℕ) → arguments-lts.Need-returns-2 (arguments-calls t) (arguments-at t) arguments.Post arguments-Inv-loop arguments-μ-loop
+arguments-returns-2 t c = arguments-end _ (c .before .loop .inv) (omega arith)
 
 abbrev either-calls : ℕ → either-lts.Claims
 either-calls t = (validate-c-family-type-below t, validate-c-family-type.Post, validate-expression-below t, validate-expression.Post)
@@ -261,24 +255,14 @@ either-enum-known-said t c = search needs
 
 either-returns : (t : ℕ) → either-lts.Need-returns (either-calls t) (either-at t) either.Post
 unfolding test
-either-returns t c = first-holds _ (λ x. refl) (c .before .before .before .validate-c-family-type .ensures) (c .before .said .given .1)
-
-either-enum-known-said-2 : (t : ℕ) → either-lts.Need-enum-known-said-2 (either-calls t) (either-at t) either.Post
-either-enum-known-said-2 t c = search needs
+either-returns t c = first-settles _ (λ x. refl) (c .before .validate-c-family-type .ensures) (not-fails (tagOf the-type) (λ l. refl) _ (c .match .keys2))
 
 either-validate-expression-requires : (t : ℕ) → either-lts.Need-validate-expression-requires (either-calls t) (either-at t) either.Post
 either-validate-expression-requires t c κs = (omega (arith, c .before .before .before .before .before .before .before .pre .0), c .before .before .before .before .before .before .before .pre .1)
 
 either-returns-2 : (t : ℕ) → either-lts.Need-returns-2 (either-calls t) (either-at t) either.Post
 unfolding test
-either-returns-2 t c = then-second _ (λ x. refl) (c .before .before .before .before .validate-c-family-type .ensures) (c .before .before .said2 .given .1) (c .validate-expression .ensures)
-
-either-enum-told : (t : ℕ) → either-lts.Need-enum-told (either-calls t) (either-at t) either.Post
-either-enum-told t c = search needs
-
-either-returns-3 : (t : ℕ) → either-lts.Need-returns-3 (either-calls t) (either-at t) either.Post
-unfolding test
-either-returns-3 t c = first-spent _ (λ x. refl) (c .before .before .validate-c-family-type .ensures) (c .enum-told .given .1)
+either-returns-2 t c = then-second _ (λ x. refl) (c .before .before .before .before .validate-c-family-type .ensures) (c .before .before .said .given .1) (c .validate-expression .ensures)
 
 abbrev parameter-calls : ℕ → parameter-lts.Claims
 parameter-calls t = (is-ellipsis-reads.Asked, is-ellipsis-reads.Learnt, validate-c-family-type-below t, validate-c-family-type.Post)
@@ -569,35 +553,12 @@ validate-abstract-declarator-enum-known-said :
     validate-abstract-declarator-μ-loop
 validate-abstract-declarator-enum-known-said t c = search needs
 
-validate-abstract-declarator-enum-known-said-2 :
-    (t : ℕ) → validate-abstract-declarator-lts.Need-enum-known-said-2 (validate-abstract-declarator-calls t)
-    (validate-abstract-declarator-at t)
-    validate-abstract-declarator.Post
-    validate-abstract-declarator-Inv-loop
-    validate-abstract-declarator-μ-loop
-validate-abstract-declarator-enum-known-said-2 t c = search needs
-
 validate-abstract-declarator-returns-3 : (t : ℕ) → validate-abstract-declarator-lts.Need-returns-3 (validate-abstract-declarator-calls t)
     (validate-abstract-declarator-at t)
     validate-abstract-declarator.Post
     validate-abstract-declarator-Inv-loop
     validate-abstract-declarator-μ-loop
-validate-abstract-declarator-returns-3 t c = run-fails (c .before .before .before .before .before .before .before .before .before .before .before .before .before .before .before .loop .inv) (omega arith) (c .before .before .before .before .before .before .before .before .before .before .before .node-end .ensures) (declarator-moved (c .before .before .before .before .before .before .before .before .before .before .before .before .before .before .before .loop .inv) (omega arith) (c .before .before .before .before .before .before .before .before .before .before .before .before .before .shape-at .ensures) (c .before .before .before .before .before .before .before .before .before .before .before .before .exact-word .ensures) (c .before .before .before .before .before .before .before .before .before .before .before .node-end .ensures) (c .before .before .before .before .before .before .before .before .before .before .shape-at2 .ensures) (c .before .before .before .before .before .before .before .before .before .abstract-declarator-node .ensures) (c .before .before .before .before .before .before .before .act3 .given .1)) (told _ _ (c .before .before .before .before .enum-told .given .1) (inside-declarator _ _ (c .before .before .before .validate-abstract-declarator .ensures))) (c .before .said2 .given .1)
-
-validate-abstract-declarator-enum-told-2 :
-    (t : ℕ) → validate-abstract-declarator-lts.Need-enum-told-2 (validate-abstract-declarator-calls t)
-    (validate-abstract-declarator-at t)
-    validate-abstract-declarator.Post
-    validate-abstract-declarator-Inv-loop
-    validate-abstract-declarator-μ-loop
-validate-abstract-declarator-enum-told-2 t c = search needs
-
-validate-abstract-declarator-returns-4 : (t : ℕ) → validate-abstract-declarator-lts.Need-returns-4 (validate-abstract-declarator-calls t)
-    (validate-abstract-declarator-at t)
-    validate-abstract-declarator.Post
-    validate-abstract-declarator-Inv-loop
-    validate-abstract-declarator-μ-loop
-validate-abstract-declarator-returns-4 t c = run-spent (c .before .before .before .before .before .before .before .before .before .before .before .before .before .before .loop .inv) (omega arith) (c .before .before .before .before .before .before .before .before .before .before .node-end .ensures) (declarator-moved (c .before .before .before .before .before .before .before .before .before .before .before .before .before .before .loop .inv) (omega arith) (c .before .before .before .before .before .before .before .before .before .before .before .before .shape-at .ensures) (c .before .before .before .before .before .before .before .before .before .before .before .exact-word .ensures) (c .before .before .before .before .before .before .before .before .before .before .node-end .ensures) (c .before .before .before .before .before .before .before .before .before .shape-at2 .ensures) (c .before .before .before .before .before .before .before .before .abstract-declarator-node .ensures) (c .before .before .before .before .before .before .act3 .given .1)) (told _ _ (c .before .before .before .enum-told .given .1) (inside-declarator _ _ (c .before .before .validate-abstract-declarator .ensures))) (c .enum-told2 .given .1)
+validate-abstract-declarator-returns-3 t c = run-stops (c .before .before .before .before .before .before .before .before .before .before .before .before .before .loop .inv) (omega arith) (c .before .before .before .before .before .before .before .before .before .node-end .ensures) (declarator-moved (c .before .before .before .before .before .before .before .before .before .before .before .before .before .loop .inv) (omega arith) (c .before .before .before .before .before .before .before .before .before .before .before .shape-at .ensures) (c .before .before .before .before .before .before .before .before .before .before .exact-word .ensures) (c .before .before .before .before .before .before .before .before .before .node-end .ensures) (c .before .before .before .before .before .before .before .before .shape-at2 .ensures) (c .before .before .before .before .before .before .before .abstract-declarator-node .ensures) (c .before .before .before .before .before .act3 .given .1)) (told _ _ (c .before .before .enum-told .given .1) (inside-declarator _ _ (c .before .validate-abstract-declarator .ensures))) (not-holds (tagOf the-type) (λ l. refl) _ (c .match3 .keys2))
 
 validate-abstract-declarator-add-test : (t : ℕ) → validate-abstract-declarator-lts.Need-add-test (validate-abstract-declarator-calls t)
     (validate-abstract-declarator-at t)
@@ -614,43 +575,20 @@ validate-abstract-declarator-test-requires :
     validate-abstract-declarator-μ-loop
 validate-abstract-declarator-test-requires t c κs = (omega (arith, walk-further (c .before .before .before .before .before .before .before .before .before .before .loop .inv .walk) (omega arith) (c .before .before .before .before .before .before .node-end .ensures), walk-fits (c .before .before .before .before .before .before .before .before .before .before .loop .inv .walk) (omega arith) (c .before .before .before .before .before .before .node-end .ensures), c .before .before .before .before .before .before .before .before .before .before .loop .inv .walk .past, c .before .before .before .before .before .before .before .before .before .before .before .before .before .before .before .pre .0), (asked (declarator-asks _ _ _ _ _ _) (declarator-moved (c .before .before .before .before .before .before .before .before .before .before .loop .inv) (omega arith) (c .before .before .before .before .before .before .before .before .shape-at .ensures) (c .before .before .before .before .before .before .before .exact-word .ensures) (c .before .before .before .before .before .before .node-end .ensures) (c .before .before .before .before .before .shape-at2 .ensures) (c .before .before .before .before .abstract-declarator-node .ensures) (c .before .before .act3 .given .1)), walk-below (c .before .before .before .before .before .before .before .before .before .before .loop .inv .walk) (omega arith) (c .before .before .before .before .before .before .node-end .ensures) (c .before .before .before .before .before .before .before .before .before .before .before .before .before .before .before .pre .1 .worded)))
 
-validate-abstract-declarator-enum-known-said-3 :
-    (t : ℕ) → validate-abstract-declarator-lts.Need-enum-known-said-3 (validate-abstract-declarator-calls t)
+validate-abstract-declarator-enum-known-said-2 :
+    (t : ℕ) → validate-abstract-declarator-lts.Need-enum-known-said-2 (validate-abstract-declarator-calls t)
     (validate-abstract-declarator-at t)
     validate-abstract-declarator.Post
     validate-abstract-declarator-Inv-loop
     validate-abstract-declarator-μ-loop
-validate-abstract-declarator-enum-known-said-3 t c = search needs
+validate-abstract-declarator-enum-known-said-2 t c = search needs
 
-validate-abstract-declarator-enum-known-said-4 :
-    (t : ℕ) → validate-abstract-declarator-lts.Need-enum-known-said-4 (validate-abstract-declarator-calls t)
+validate-abstract-declarator-returns-4 : (t : ℕ) → validate-abstract-declarator-lts.Need-returns-4 (validate-abstract-declarator-calls t)
     (validate-abstract-declarator-at t)
     validate-abstract-declarator.Post
     validate-abstract-declarator-Inv-loop
     validate-abstract-declarator-μ-loop
-validate-abstract-declarator-enum-known-said-4 t c = search needs
-
-validate-abstract-declarator-returns-5 : (t : ℕ) → validate-abstract-declarator-lts.Need-returns-5 (validate-abstract-declarator-calls t)
-    (validate-abstract-declarator-at t)
-    validate-abstract-declarator.Post
-    validate-abstract-declarator-Inv-loop
-    validate-abstract-declarator-μ-loop
-validate-abstract-declarator-returns-5 t c = run-fails (c .before .before .before .before .before .before .before .before .before .before .before .before .before .before .loop .inv) (omega arith) (c .before .before .before .before .before .before .before .before .before .before .node-end .ensures) (declarator-moved (c .before .before .before .before .before .before .before .before .before .before .before .before .before .before .loop .inv) (omega arith) (c .before .before .before .before .before .before .before .before .before .before .before .before .shape-at .ensures) (c .before .before .before .before .before .before .before .before .before .before .before .exact-word .ensures) (c .before .before .before .before .before .before .before .before .before .before .node-end .ensures) (c .before .before .before .before .before .before .before .before .before .shape-at2 .ensures) (c .before .before .before .before .before .before .before .before .abstract-declarator-node .ensures) (c .before .before .before .before .before .before .act3 .given .1)) (c .before .before .before .test .ensures) (c .before .said4 .given .1)
-
-validate-abstract-declarator-enum-told-3 :
-    (t : ℕ) → validate-abstract-declarator-lts.Need-enum-told-3 (validate-abstract-declarator-calls t)
-    (validate-abstract-declarator-at t)
-    validate-abstract-declarator.Post
-    validate-abstract-declarator-Inv-loop
-    validate-abstract-declarator-μ-loop
-validate-abstract-declarator-enum-told-3 t c = search needs
-
-validate-abstract-declarator-returns-6 : (t : ℕ) → validate-abstract-declarator-lts.Need-returns-6 (validate-abstract-declarator-calls t)
-    (validate-abstract-declarator-at t)
-    validate-abstract-declarator.Post
-    validate-abstract-declarator-Inv-loop
-    validate-abstract-declarator-μ-loop
-validate-abstract-declarator-returns-6 t c = run-spent (c .before .before .before .before .before .before .before .before .before .before .before .before .before .loop .inv) (omega arith) (c .before .before .before .before .before .before .before .before .before .node-end .ensures) (declarator-moved (c .before .before .before .before .before .before .before .before .before .before .before .before .before .loop .inv) (omega arith) (c .before .before .before .before .before .before .before .before .before .before .before .shape-at .ensures) (c .before .before .before .before .before .before .before .before .before .before .exact-word .ensures) (c .before .before .before .before .before .before .before .before .before .node-end .ensures) (c .before .before .before .before .before .before .before .before .shape-at2 .ensures) (c .before .before .before .before .before .before .before .abstract-declarator-node .ensures) (c .before .before .before .before .before .act3 .given .1)) (c .before .before .test .ensures) (c .enum-told3 .given .1)
+validate-abstract-declarator-returns-4 t c = run-stops (c .before .before .before .before .before .before .before .before .before .before .before .before .loop .inv) (omega arith) (c .before .before .before .before .before .before .before .before .node-end .ensures) (declarator-moved (c .before .before .before .before .before .before .before .before .before .before .before .before .loop .inv) (omega arith) (c .before .before .before .before .before .before .before .before .before .before .shape-at .ensures) (c .before .before .before .before .before .before .before .before .before .exact-word .ensures) (c .before .before .before .before .before .before .before .before .node-end .ensures) (c .before .before .before .before .before .before .before .shape-at2 .ensures) (c .before .before .before .before .before .before .abstract-declarator-node .ensures) (c .before .before .before .before .act3 .given .1)) (c .before .test .ensures) (not-holds (tagOf the-type) (λ l. refl) _ (c .match4 .keys2))
 
 validate-abstract-declarator-loop-less : (t : ℕ) → validate-abstract-declarator-lts.Need-loop-less (validate-abstract-declarator-calls t)
     (validate-abstract-declarator-at t)
@@ -697,7 +635,7 @@ validate-abstract-declarator-loop-again-3 :
     validate-abstract-declarator.Post
     validate-abstract-declarator-Inv-loop
     validate-abstract-declarator-μ-loop
-validate-abstract-declarator-loop-again-3 t c = run-inside (c .before .before .before .before .before .before .before .before .before .before .before .before .before .before .loop .inv) (omega arith) (c .before .before .before .before .before .before .before .before .before .before .node-end .ensures) (declarator-moved (c .before .before .before .before .before .before .before .before .before .before .before .before .before .before .loop .inv) (omega arith) (c .before .before .before .before .before .before .before .before .before .before .before .before .shape-at .ensures) (c .before .before .before .before .before .before .before .before .before .before .before .exact-word .ensures) (c .before .before .before .before .before .before .before .before .before .before .node-end .ensures) (c .before .before .before .before .before .before .before .before .before .shape-at2 .ensures) (c .before .before .before .before .before .before .before .before .abstract-declarator-node .ensures) (c .before .before .before .before .before .before .act3 .given .1)) (c .before .before .before .test .ensures) (c .before .said3 .given .1) (c .before .before .before .before .before .before .before .before .before .before .before .before .shape-at .ensures _ (c .before .before .before .before .before .before .before .before .before .before .before .before .before .before .loop .inv .walk .stands))
+validate-abstract-declarator-loop-again-3 t c = run-inside (c .before .before .before .before .before .before .before .before .before .before .before .before .before .before .loop .inv) (omega arith) (c .before .before .before .before .before .before .before .before .before .before .node-end .ensures) (declarator-moved (c .before .before .before .before .before .before .before .before .before .before .before .before .before .before .loop .inv) (omega arith) (c .before .before .before .before .before .before .before .before .before .before .before .before .shape-at .ensures) (c .before .before .before .before .before .before .before .before .before .before .before .exact-word .ensures) (c .before .before .before .before .before .before .before .before .before .before .node-end .ensures) (c .before .before .before .before .before .before .before .before .before .shape-at2 .ensures) (c .before .before .before .before .before .before .before .before .abstract-declarator-node .ensures) (c .before .before .before .before .before .before .act3 .given .1)) (c .before .before .before .test .ensures) (c .before .said2 .given .1) (c .before .before .before .before .before .before .before .before .before .before .before .before .shape-at .ensures _ (c .before .before .before .before .before .before .before .before .before .before .before .before .before .before .loop .inv .walk .stands))
 
 validate-abstract-declarator-plain-requires-2 :
     (t : ℕ) → validate-abstract-declarator-lts.Need-plain-requires-2 (validate-abstract-declarator-calls t)
@@ -707,13 +645,13 @@ validate-abstract-declarator-plain-requires-2 :
     validate-abstract-declarator-μ-loop
 validate-abstract-declarator-plain-requires-2 t c κs = search needs
 
-validate-abstract-declarator-returns-7 : (t : ℕ) → validate-abstract-declarator-lts.Need-returns-7 (validate-abstract-declarator-calls t)
+validate-abstract-declarator-returns-5 : (t : ℕ) → validate-abstract-declarator-lts.Need-returns-5 (validate-abstract-declarator-calls t)
     (validate-abstract-declarator-at t)
     validate-abstract-declarator.Post
     validate-abstract-declarator-Inv-loop
     validate-abstract-declarator-μ-loop
 unfolding declarator-end
-validate-abstract-declarator-returns-7 t c = run-end (c .before .before .loop .inv) (omega arith) (c .plain2 .ensures)
+validate-abstract-declarator-returns-5 t c = run-end (c .before .before .loop .inv) (omega arith) (c .plain2 .ensures)
 
 abbrev validate-c-family-type-Inv-loop : validate-c-family-type-lts.InvT-loop
 validate-c-family-type-Inv-loop language tree kinds words from to allowed left₀ before₀ word-before₀ st₀ at₀ left before word-before st at = InType language tree kinds words from to allowed left st before word-before at
@@ -858,34 +796,12 @@ validate-c-family-type-enum-known-said : (t : ℕ) → validate-c-family-type-lt
     validate-c-family-type-μ-loop
 validate-c-family-type-enum-known-said t c = search needs
 
-validate-c-family-type-enum-known-said-2 :
-    (t : ℕ) → validate-c-family-type-lts.Need-enum-known-said-2 (validate-c-family-type-calls t)
-    (validate-c-family-type-at t)
-    validate-c-family-type.Post
-    validate-c-family-type-Inv-loop
-    validate-c-family-type-μ-loop
-validate-c-family-type-enum-known-said-2 t c = search needs
-
 validate-c-family-type-returns-4 : (t : ℕ) → validate-c-family-type-lts.Need-returns-4 (validate-c-family-type-calls t)
     (validate-c-family-type-at t)
     validate-c-family-type.Post
     validate-c-family-type-Inv-loop
     validate-c-family-type-μ-loop
-validate-c-family-type-returns-4 t c = run-fails (c .before .before .before .before .before .before .before .before .before .before .before .before .before .loop .inv) (omega arith) (c .before .before .before .before .before .before .before .before .before .node-end .ensures) (type-moved (c .before .before .before .before .before .before .before .before .before .before .before .before .before .loop .inv) (omega arith) (c .before .before .before .before .before .before .before .before .before .before .before .shape-at .ensures) (c .before .before .before .before .before .before .before .before .before .before .exact-word .ensures) (c .before .before .before .before .before .before .before .before .before .node-end .ensures) (c .before .before .before .before .before .before .before .before .shape-at2 .ensures) (c .before .before .before .before .before .before .before .c-family-node .ensures) (c .before .before .before .before .before .act3 .given .1)) (c .before .before .before .test .ensures) (c .before .said2 .given .1)
-
-validate-c-family-type-enum-told : (t : ℕ) → validate-c-family-type-lts.Need-enum-told (validate-c-family-type-calls t)
-    (validate-c-family-type-at t)
-    validate-c-family-type.Post
-    validate-c-family-type-Inv-loop
-    validate-c-family-type-μ-loop
-validate-c-family-type-enum-told t c = search needs
-
-validate-c-family-type-returns-5 : (t : ℕ) → validate-c-family-type-lts.Need-returns-5 (validate-c-family-type-calls t)
-    (validate-c-family-type-at t)
-    validate-c-family-type.Post
-    validate-c-family-type-Inv-loop
-    validate-c-family-type-μ-loop
-validate-c-family-type-returns-5 t c = run-spent (c .before .before .before .before .before .before .before .before .before .before .before .before .loop .inv) (omega arith) (c .before .before .before .before .before .before .before .before .node-end .ensures) (type-moved (c .before .before .before .before .before .before .before .before .before .before .before .before .loop .inv) (omega arith) (c .before .before .before .before .before .before .before .before .before .before .shape-at .ensures) (c .before .before .before .before .before .before .before .before .before .exact-word .ensures) (c .before .before .before .before .before .before .before .before .node-end .ensures) (c .before .before .before .before .before .before .before .shape-at2 .ensures) (c .before .before .before .before .before .before .c-family-node .ensures) (c .before .before .before .before .act3 .given .1)) (c .before .before .test .ensures) (c .enum-told .given .1)
+validate-c-family-type-returns-4 t c = run-stops (c .before .before .before .before .before .before .before .before .before .before .before .loop .inv) (omega arith) (c .before .before .before .before .before .before .before .node-end .ensures) (type-moved (c .before .before .before .before .before .before .before .before .before .before .before .loop .inv) (omega arith) (c .before .before .before .before .before .before .before .before .before .shape-at .ensures) (c .before .before .before .before .before .before .before .before .exact-word .ensures) (c .before .before .before .before .before .before .before .node-end .ensures) (c .before .before .before .before .before .before .shape-at2 .ensures) (c .before .before .before .before .before .c-family-node .ensures) (c .before .before .before .act3 .given .1)) (c .before .test .ensures) (not-holds (tagOf the-type) (λ l. refl) _ (c .match2 .keys2))
 
 validate-c-family-type-loop-less : (t : ℕ) → validate-c-family-type-lts.Need-loop-less (validate-c-family-type-calls t)
     (validate-c-family-type-at t)
@@ -923,13 +839,13 @@ validate-c-family-type-plain-requires-2 :
     validate-c-family-type-μ-loop
 validate-c-family-type-plain-requires-2 t c κs = search needs
 
-validate-c-family-type-returns-6 : (t : ℕ) → validate-c-family-type-lts.Need-returns-6 (validate-c-family-type-calls t)
+validate-c-family-type-returns-5 : (t : ℕ) → validate-c-family-type-lts.Need-returns-5 (validate-c-family-type-calls t)
     (validate-c-family-type-at t)
     validate-c-family-type.Post
     validate-c-family-type-Inv-loop
     validate-c-family-type-μ-loop
 unfolding type-end
-validate-c-family-type-returns-6 t c = run-end (c .before .before .loop .inv) (omega arith) (c .plain2 .ensures)
+validate-c-family-type-returns-5 t c = run-end (c .before .before .loop .inv) (omega arith) (c .plain2 .ensures)
 
 abbrev validate-cpp-template-argument-calls : ℕ → validate-cpp-template-argument-lts.Claims
 validate-cpp-template-argument-calls t = (either-below t, either.Post)
@@ -1058,33 +974,12 @@ validate-expression-enum-known-said : (t : ℕ) → validate-expression-lts.Need
     validate-expression-μ-loop
 validate-expression-enum-known-said t c = search needs
 
-validate-expression-enum-known-said-2 : (t : ℕ) → validate-expression-lts.Need-enum-known-said-2 (validate-expression-calls t)
-    (validate-expression-at t)
-    validate-expression.Post
-    validate-expression-Inv-loop
-    validate-expression-μ-loop
-validate-expression-enum-known-said-2 t c = search needs
-
 validate-expression-returns-3 : (t : ℕ) → validate-expression-lts.Need-returns-3 (validate-expression-calls t)
     (validate-expression-at t)
     validate-expression.Post
     validate-expression-Inv-loop
     validate-expression-μ-loop
-validate-expression-returns-3 t c = run-fails (c .before .before .before .before .before .before .before .before .before .before .before .loop .inv) (omega arith) (c .before .before .before .before .before .before .before .before .node-end .ensures) (expression-moved (c .before .before .before .before .before .before .before .before .before .before .before .loop .inv) (c .before .before .before .before .before .before .before .before .before .shape-at .ensures) (c .before .before .before .before .before .before .before .expression-node .ensures) (c .before .before .before .before .before .act3 .given .1)) (c .before .before .before .test .ensures) (c .before .said2 .given .1)
-
-validate-expression-enum-told : (t : ℕ) → validate-expression-lts.Need-enum-told (validate-expression-calls t)
-    (validate-expression-at t)
-    validate-expression.Post
-    validate-expression-Inv-loop
-    validate-expression-μ-loop
-validate-expression-enum-told t c = search needs
-
-validate-expression-returns-4 : (t : ℕ) → validate-expression-lts.Need-returns-4 (validate-expression-calls t)
-    (validate-expression-at t)
-    validate-expression.Post
-    validate-expression-Inv-loop
-    validate-expression-μ-loop
-validate-expression-returns-4 t c = run-spent (c .before .before .before .before .before .before .before .before .before .before .loop .inv) (omega arith) (c .before .before .before .before .before .before .before .node-end .ensures) (expression-moved (c .before .before .before .before .before .before .before .before .before .before .loop .inv) (c .before .before .before .before .before .before .before .before .shape-at .ensures) (c .before .before .before .before .before .before .expression-node .ensures) (c .before .before .before .before .act3 .given .1)) (c .before .before .test .ensures) (c .enum-told .given .1)
+validate-expression-returns-3 t c = run-stops (c .before .before .before .before .before .before .before .before .before .loop .inv) (omega arith) (c .before .before .before .before .before .before .node-end .ensures) (expression-moved (c .before .before .before .before .before .before .before .before .before .loop .inv) (c .before .before .before .before .before .before .before .shape-at .ensures) (c .before .before .before .before .before .expression-node .ensures) (c .before .before .before .act3 .given .1)) (c .before .test .ensures) (not-holds (tagOf the-type) (λ l. refl) _ (c .match2 .keys2))
 
 validate-expression-loop-less : (t : ℕ) → validate-expression-lts.Need-loop-less (validate-expression-calls t)
     (validate-expression-at t)
@@ -1129,12 +1024,12 @@ validate-expression-plain-requires-2 : (t : ℕ) → validate-expression-lts.Nee
     validate-expression-μ-loop
 validate-expression-plain-requires-2 t c κs = search needs
 
-validate-expression-returns-5 : (t : ℕ) → validate-expression-lts.Need-returns-5 (validate-expression-calls t)
+validate-expression-returns-4 : (t : ℕ) → validate-expression-lts.Need-returns-4 (validate-expression-calls t)
     (validate-expression-at t)
     validate-expression.Post
     validate-expression-Inv-loop
     validate-expression-μ-loop
-validate-expression-returns-5 t c = run-end (c .before .before .before .loop .inv) (omega arith) (c .plain2 .ensures ∙ rw (c .before .expression-end .ensures))
+validate-expression-returns-4 t c = run-end (c .before .before .before .loop .inv) (omega arith) (c .plain2 .ensures ∙ rw (c .before .expression-end .ensures))
 
 abbrev validate-parameter-type-list-Inv-loop : validate-parameter-type-list-lts.InvT-loop
 validate-parameter-type-list-Inv-loop language tree kinds words from to allowed left₀ at₀ left at = InParts (validate-parameter language kinds words (checked language kinds words)) (validate-parameter-type-list language kinds words (checked language kinds words)) tree kinds from to allowed left at
@@ -1201,41 +1096,19 @@ validate-parameter-type-list-enum-known-said :
     validate-parameter-type-list-μ-loop
 validate-parameter-type-list-enum-known-said t c = search needs
 
-validate-parameter-type-list-enum-known-said-2 :
-    (t : ℕ) → validate-parameter-type-list-lts.Need-enum-known-said-2 (validate-parameter-type-list-calls t)
-    (validate-parameter-type-list-at t)
-    validate-parameter-type-list.Post
-    validate-parameter-type-list-Inv-loop
-    validate-parameter-type-list-μ-loop
-validate-parameter-type-list-enum-known-said-2 t c = search needs
-
 validate-parameter-type-list-returns-3 : (t : ℕ) → validate-parameter-type-list-lts.Need-returns-3 (validate-parameter-type-list-calls t)
     (validate-parameter-type-list-at t)
     validate-parameter-type-list.Post
     validate-parameter-type-list-Inv-loop
     validate-parameter-type-list-μ-loop
-validate-parameter-type-list-returns-3 t c = walk-fails (c .before .before .before .before .before .loop .inv) (parts-turn _ (c .before .before .before .before .before .loop .inv) (c .before .before .before .before .part-end .ensures)) (c .before .before .before .parameter .ensures) (c .before .said2 .given .1)
-
-validate-parameter-type-list-enum-told : (t : ℕ) → validate-parameter-type-list-lts.Need-enum-told (validate-parameter-type-list-calls t)
-    (validate-parameter-type-list-at t)
-    validate-parameter-type-list.Post
-    validate-parameter-type-list-Inv-loop
-    validate-parameter-type-list-μ-loop
-validate-parameter-type-list-enum-told t c = search needs
+validate-parameter-type-list-returns-3 t c = walk-stops (c .before .before .before .loop .inv) (parts-turn _ (c .before .before .before .loop .inv) (c .before .before .part-end .ensures)) (c .before .parameter .ensures) (not-holds (tagOf the-type) (λ l. refl) _ (c .match .keys2))
 
 validate-parameter-type-list-returns-4 : (t : ℕ) → validate-parameter-type-list-lts.Need-returns-4 (validate-parameter-type-list-calls t)
     (validate-parameter-type-list-at t)
     validate-parameter-type-list.Post
     validate-parameter-type-list-Inv-loop
     validate-parameter-type-list-μ-loop
-validate-parameter-type-list-returns-4 t c = walk-spent (c .before .before .before .before .loop .inv) (parts-turn _ (c .before .before .before .before .loop .inv) (c .before .before .before .part-end .ensures)) (c .before .before .parameter .ensures) (c .enum-told .given .1)
-
-validate-parameter-type-list-returns-5 : (t : ℕ) → validate-parameter-type-list-lts.Need-returns-5 (validate-parameter-type-list-calls t)
-    (validate-parameter-type-list-at t)
-    validate-parameter-type-list.Post
-    validate-parameter-type-list-Inv-loop
-    validate-parameter-type-list-μ-loop
-validate-parameter-type-list-returns-5 t c = parts-last _ (walk-holds (c .before .before .before .before .before .before .loop .inv) (parts-turn _ (c .before .before .before .before .before .before .loop .inv) (c .before .before .before .before .before .part-end .ensures)) (c .before .before .before .before .parameter .ensures) (c .before .before .said .given .1)) (c .if3 .taken)
+validate-parameter-type-list-returns-4 t c = parts-last _ (walk-holds (c .before .before .before .before .before .before .loop .inv) (parts-turn _ (c .before .before .before .before .before .before .loop .inv) (c .before .before .before .before .before .part-end .ensures)) (c .before .before .before .before .parameter .ensures) (c .before .before .said .given .1)) (c .if3 .taken)
 
 validate-parameter-type-list-node-end-requires :
     (t : ℕ) → validate-parameter-type-list-lts.Need-node-end-requires (validate-parameter-type-list-calls t)
@@ -1283,24 +1156,18 @@ pub +arguments+either+parameter+test+validate-abstract-declarator+validate-c-fam
     (arguments-add-validate-cpp-template-argument t)
     (arguments-validate-cpp-template-argument-requires t)
     (arguments-enum-known-said t)
-    (arguments-enum-known-said-2 t)
     (arguments-returns t)
-    (arguments-enum-told t)
-    (arguments-returns-2 t)
     (arguments-loop-less t)
     (arguments-loop-again t)
-    (arguments-returns-3 t))
+    (arguments-returns-2 t))
     (λ t. either-lts.spec (either-calls t)
     (either-at t)
     either.Post
     (either-validate-c-family-type-requires t)
     (either-enum-known-said t)
     (either-returns t)
-    (either-enum-known-said-2 t)
     (either-validate-expression-requires t)
-    (either-returns-2 t)
-    (either-enum-told t)
-    (either-returns-3 t))
+    (either-returns-2 t))
     (λ t. parameter-lts.spec (parameter-calls t)
     (parameter-at t)
     parameter.Post
@@ -1371,17 +1238,11 @@ pub +arguments+either+parameter+test+validate-abstract-declarator+validate-c-fam
     (validate-abstract-declarator-add-validate-abstract-declarator t)
     (validate-abstract-declarator-validate-abstract-declarator-requires t)
     (validate-abstract-declarator-enum-known-said t)
-    (validate-abstract-declarator-enum-known-said-2 t)
     (validate-abstract-declarator-returns-3 t)
-    (validate-abstract-declarator-enum-told-2 t)
-    (validate-abstract-declarator-returns-4 t)
     (validate-abstract-declarator-add-test t)
     (validate-abstract-declarator-test-requires t)
-    (validate-abstract-declarator-enum-known-said-3 t)
-    (validate-abstract-declarator-enum-known-said-4 t)
-    (validate-abstract-declarator-returns-5 t)
-    (validate-abstract-declarator-enum-told-3 t)
-    (validate-abstract-declarator-returns-6 t)
+    (validate-abstract-declarator-enum-known-said-2 t)
+    (validate-abstract-declarator-returns-4 t)
     (validate-abstract-declarator-loop-less t)
     (validate-abstract-declarator-loop-again t)
     (validate-abstract-declarator-loop-less-2 t)
@@ -1389,7 +1250,7 @@ pub +arguments+either+parameter+test+validate-abstract-declarator+validate-c-fam
     (validate-abstract-declarator-loop-less-3 t)
     (validate-abstract-declarator-loop-again-3 t)
     (validate-abstract-declarator-plain-requires-2 t)
-    (validate-abstract-declarator-returns-7 t))
+    (validate-abstract-declarator-returns-5 t))
     (λ t. validate-c-family-type-lts.spec (validate-c-family-type-calls t)
     (validate-c-family-type-at t)
     validate-c-family-type.Post
@@ -1413,16 +1274,13 @@ pub +arguments+either+parameter+test+validate-abstract-declarator+validate-c-fam
     (validate-c-family-type-add-test t)
     (validate-c-family-type-test-requires t)
     (validate-c-family-type-enum-known-said t)
-    (validate-c-family-type-enum-known-said-2 t)
     (validate-c-family-type-returns-4 t)
-    (validate-c-family-type-enum-told t)
-    (validate-c-family-type-returns-5 t)
     (validate-c-family-type-loop-less t)
     (validate-c-family-type-loop-again t)
     (validate-c-family-type-loop-less-2 t)
     (validate-c-family-type-loop-again-2 t)
     (validate-c-family-type-plain-requires-2 t)
-    (validate-c-family-type-returns-6 t))
+    (validate-c-family-type-returns-5 t))
     (λ t. validate-cpp-template-argument-lts.spec (validate-cpp-template-argument-calls t)
     (validate-cpp-template-argument-at t)
     validate-cpp-template-argument.Post
@@ -1448,17 +1306,14 @@ pub +arguments+either+parameter+test+validate-abstract-declarator+validate-c-fam
     (validate-expression-add-test t)
     (validate-expression-test-requires t)
     (validate-expression-enum-known-said t)
-    (validate-expression-enum-known-said-2 t)
     (validate-expression-returns-3 t)
-    (validate-expression-enum-told t)
-    (validate-expression-returns-4 t)
     (validate-expression-loop-less t)
     (validate-expression-loop-again t)
     (validate-expression-loop-less-2 t)
     (validate-expression-loop-again-2 t)
     (validate-expression-expression-end-requires t)
     (validate-expression-plain-requires-2 t)
-    (validate-expression-returns-5 t))
+    (validate-expression-returns-4 t))
     λ t. validate-parameter-type-list-lts.spec (validate-parameter-type-list-calls t)
     (validate-parameter-type-list-at t)
     validate-parameter-type-list.Post
@@ -1471,11 +1326,8 @@ pub +arguments+either+parameter+test+validate-abstract-declarator+validate-c-fam
     (validate-parameter-type-list-part-end-requires t)
     (validate-parameter-type-list-parameter-requires t)
     (validate-parameter-type-list-enum-known-said t)
-    (validate-parameter-type-list-enum-known-said-2 t)
     (validate-parameter-type-list-returns-3 t)
-    (validate-parameter-type-list-enum-told t)
     (validate-parameter-type-list-returns-4 t)
-    (validate-parameter-type-list-returns-5 t)
     (validate-parameter-type-list-node-end-requires t)
     (validate-parameter-type-list-loop-less t)
     (validate-parameter-type-list-loop-again t)

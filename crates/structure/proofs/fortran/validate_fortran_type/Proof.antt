@@ -4,9 +4,12 @@ use mathlib.Core.Path.{_≡_, refl}
 use native.Mathlib.Omega.{arith}
 use borrow.Author.Needs.{needs}
 use borrow.Author.Tests.{not-true, not-false}
+use denote.Enum.Declared.{tagOf}
+use Rattle.structure.proofs.moves.Verdict.{the-type}
 use Rattle.structure.specs.FortranTypes.{fortran-end}
+use Rattle.structure.specs.Laws.Limits.{not-holds}
 use Rattle.structure.specs.Laws.Walks.{walk-formed, walk-further, walk-fits, walk-below, walk-after}
-use Rattle.structure.specs.Laws.Runs.{entry-spent, head-fails, head-holds, run-start, run-end, run-stop, run-on, run-fails, run-spent, run-inside}
+use Rattle.structure.specs.Laws.Runs.{entry-spent, head-fails, head-holds, run-start, run-end, run-stop, run-on, run-stops, run-inside}
 use Rattle.structure.specs.Laws.Asked.{asked, fortran-asks, selectors-asked}
 use Rattle.structure.specs.Laws.Checks.{InFortran, fortran-entry, fortran-moved}
 use Rattle.structure.proofs.fortran.validate_fortran_type.Statement.{statement}
@@ -79,17 +82,8 @@ validate-fortran-selector-list-requires c κs = walk-below (c .before .before .b
 enum-known-said : tie.Need-enum-known-said Inv-loop μ-loop
 enum-known-said c = omega arith
 
-enum-known-said-2 : tie.Need-enum-known-said-2 Inv-loop μ-loop
-enum-known-said-2 c = omega arith
-
 returns-4 : tie.Need-returns-4 Inv-loop μ-loop
-returns-4 c = run-fails (c .before .before .before .before .before .before .before .before .before .before .before .before .loop .inv) (omega arith) (c .before .before .before .before .before .before .before .before .before .node-end .ensures) (fortran-moved (c .before .before .before .before .before .before .before .before .before .before .before .before .loop .inv) (omega arith) (c .before .before .before .before .before .before .before .before .before .before .shape-at .ensures) (c .before .before .before .before .before .before .before .before .before .node-end .ensures) (c .before .before .before .before .before .before .before .before .is-single-token .ensures) (c .before .before .before .before .before .before .before .fortran-node .ensures) (c .before .before .before .before .before .act3 .given .1)) (selectors-asked _ _ (asked (fortran-asks _ _ _) (fortran-moved (c .before .before .before .before .before .before .before .before .before .before .before .before .loop .inv) (omega arith) (c .before .before .before .before .before .before .before .before .before .before .shape-at .ensures) (c .before .before .before .before .before .before .before .before .before .node-end .ensures) (c .before .before .before .before .before .before .before .before .is-single-token .ensures) (c .before .before .before .before .before .before .before .fortran-node .ensures) (c .before .before .before .before .before .act3 .given .1))) (c .before .before .before .validate-fortran-selector-list .ensures)) (c .before .said2 .given .1)
-
-enum-told : tie.Need-enum-told Inv-loop μ-loop
-enum-told c = omega arith
-
-returns-5 : tie.Need-returns-5 Inv-loop μ-loop
-returns-5 c = run-spent (c .before .before .before .before .before .before .before .before .before .before .before .loop .inv) (omega arith) (c .before .before .before .before .before .before .before .before .node-end .ensures) (fortran-moved (c .before .before .before .before .before .before .before .before .before .before .before .loop .inv) (omega arith) (c .before .before .before .before .before .before .before .before .before .shape-at .ensures) (c .before .before .before .before .before .before .before .before .node-end .ensures) (c .before .before .before .before .before .before .before .is-single-token .ensures) (c .before .before .before .before .before .before .fortran-node .ensures) (c .before .before .before .before .act3 .given .1)) (selectors-asked _ _ (asked (fortran-asks _ _ _) (fortran-moved (c .before .before .before .before .before .before .before .before .before .before .before .loop .inv) (omega arith) (c .before .before .before .before .before .before .before .before .before .shape-at .ensures) (c .before .before .before .before .before .before .before .before .node-end .ensures) (c .before .before .before .before .before .before .before .is-single-token .ensures) (c .before .before .before .before .before .before .fortran-node .ensures) (c .before .before .before .before .act3 .given .1))) (c .before .before .validate-fortran-selector-list .ensures)) (c .enum-told .given .1)
+returns-4 c = run-stops (c .before .before .before .before .before .before .before .before .before .before .loop .inv) (omega arith) (c .before .before .before .before .before .before .before .node-end .ensures) (fortran-moved (c .before .before .before .before .before .before .before .before .before .before .loop .inv) (omega arith) (c .before .before .before .before .before .before .before .before .shape-at .ensures) (c .before .before .before .before .before .before .before .node-end .ensures) (c .before .before .before .before .before .before .is-single-token .ensures) (c .before .before .before .before .before .fortran-node .ensures) (c .before .before .before .act3 .given .1)) (selectors-asked _ _ (asked (fortran-asks _ _ _) (fortran-moved (c .before .before .before .before .before .before .before .before .before .before .loop .inv) (omega arith) (c .before .before .before .before .before .before .before .before .shape-at .ensures) (c .before .before .before .before .before .before .before .node-end .ensures) (c .before .before .before .before .before .before .is-single-token .ensures) (c .before .before .before .before .before .fortran-node .ensures) (c .before .before .before .act3 .given .1))) (c .before .validate-fortran-selector-list .ensures)) (not-holds (tagOf the-type) (λ l. refl) _ (c .match2 .keys2))
 
 loop-less : tie.Need-loop-less Inv-loop μ-loop
 loop-less c = omega (arith, walk-further (c .before .before .before .before .before .before .before .before .loop .inv .walk) (omega arith) (c .before .before .before .before .before .node-end .ensures), walk-fits (c .before .before .before .before .before .before .before .before .loop .inv .walk) (omega arith) (c .before .before .before .before .before .node-end .ensures))
@@ -106,9 +100,9 @@ loop-again-2 c = run-inside (c .before .before .before .before .before .before .
 plain-requires-2 : tie.Need-plain-requires-2 Inv-loop μ-loop
 plain-requires-2 c κs = omega arith
 
-returns-6 : tie.Need-returns-6 Inv-loop μ-loop
+returns-5 : tie.Need-returns-5 Inv-loop μ-loop
 unfolding fortran-end
-returns-6 c = run-end (c .before .before .loop .inv) (omega arith) (c .plain2 .ensures)
+returns-5 c = run-end (c .before .before .loop .inv) (omega arith) (c .plain2 .ensures)
 
 pub validate-fortran-type-spec : {M : Type 1} → statement M
 validate-fortran-type-spec =
@@ -133,13 +127,10 @@ validate-fortran-type-spec =
     add-validate-fortran-selector-list
     validate-fortran-selector-list-requires
     enum-known-said
-    enum-known-said-2
     returns-4
-    enum-told
-    returns-5
     loop-less
     loop-again
     loop-less-2
     loop-again-2
     plain-requires-2
-    returns-6)
+    returns-5)

@@ -4,8 +4,11 @@ use mathlib.Core.Path.{_≡_, refl}
 use native.Mathlib.Omega.{arith}
 use borrow.Author.Needs.{needs}
 use borrow.Author.Tests.{not-true, not-false}
+use denote.Enum.Declared.{tagOf}
+use Rattle.structure.proofs.moves.Verdict.{the-type}
 use Rattle.structure.specs.Structure.{checked, validate-fortran-selector, validate-fortran-selector-list}
-use Rattle.structure.specs.Laws.Walks.{walk-start, walk-formed, walk-fails, walk-spent, walk-holds, walk-further, walk-fits}
+use Rattle.structure.specs.Laws.Limits.{not-holds}
+use Rattle.structure.specs.Laws.Walks.{walk-start, walk-formed, walk-stops, walk-holds, walk-further, walk-fits}
 use Rattle.structure.specs.Laws.Inside.{no-list, list-of, both-failed, selectors-start}
 use Rattle.structure.specs.Laws.Parts.{InParts, parts-past, parts-fit, parts-ready, parts-comma, parts-turn, parts-last, parts-next}
 use Rattle.structure.proofs.selectors.validate_fortran_selector_list.Statement.{statement}
@@ -46,20 +49,11 @@ validate-fortran-selector-requires c κs = parts-ready _ (c .before .loop .inv) 
 enum-known-said : tie.Need-enum-known-said Inv-loop μ-loop
 enum-known-said c = omega arith
 
-enum-known-said-2 : tie.Need-enum-known-said-2 Inv-loop μ-loop
-enum-known-said-2 c = omega arith
-
 returns-3 : tie.Need-returns-3 Inv-loop μ-loop
-returns-3 c = walk-fails (c .before .before .before .before .before .loop .inv) (parts-turn _ (c .before .before .before .before .before .loop .inv) (c .before .before .before .before .part-end .ensures)) (c .before .before .before .validate-fortran-selector .ensures) (c .before .said2 .given .1)
-
-enum-told : tie.Need-enum-told Inv-loop μ-loop
-enum-told c = omega arith
+returns-3 c = walk-stops (c .before .before .before .loop .inv) (parts-turn _ (c .before .before .before .loop .inv) (c .before .before .part-end .ensures)) (c .before .validate-fortran-selector .ensures) (not-holds (tagOf the-type) (λ l. refl) _ (c .match .keys2))
 
 returns-4 : tie.Need-returns-4 Inv-loop μ-loop
-returns-4 c = walk-spent (c .before .before .before .before .loop .inv) (parts-turn _ (c .before .before .before .before .loop .inv) (c .before .before .before .part-end .ensures)) (c .before .before .validate-fortran-selector .ensures) (c .enum-told .given .1)
-
-returns-5 : tie.Need-returns-5 Inv-loop μ-loop
-returns-5 c = parts-last _ (walk-holds (c .before .before .before .before .before .before .loop .inv) (parts-turn _ (c .before .before .before .before .before .before .loop .inv) (c .before .before .before .before .before .part-end .ensures)) (c .before .before .before .before .validate-fortran-selector .ensures) (c .before .before .said .given .1)) (c .if3 .taken)
+returns-4 c = parts-last _ (walk-holds (c .before .before .before .before .before .before .loop .inv) (parts-turn _ (c .before .before .before .before .before .before .loop .inv) (c .before .before .before .before .before .part-end .ensures)) (c .before .before .before .before .validate-fortran-selector .ensures) (c .before .before .said .given .1)) (c .if3 .taken)
 
 node-end-requires : tie.Need-node-end-requires Inv-loop μ-loop
 node-end-requires c κs = (omega (arith, parts-fit _ (c .before .before .before .before .before .before .loop .inv) (c .before .before .before .before .before .part-end .ensures), c .if3 .left), parts-comma _ (c .before .before .before .before .before .before .loop .inv) (c .before .before .before .before .before .part-end .ensures))
@@ -83,11 +77,8 @@ validate-fortran-selector-list-spec =
     part-end-requires
     validate-fortran-selector-requires
     enum-known-said
-    enum-known-said-2
     returns-3
-    enum-told
     returns-4
-    returns-5
     node-end-requires
     loop-less
     loop-again)

@@ -6,7 +6,7 @@ use Rattle.structure.proofs.specifiers.exact_word.Tie as tie
 use Rattle.structure.proofs.specifiers.exact_word.Reads as reads
 use Rattle.structure.proofs.specifiers.exact_word.Lts as lts
 use Rattle.structure.proofs.nodes.node_identifier.Reads as node-identifier-reads
-use Rattle.structure.proofs.specifiers.exactly.Reads as exactly-reads
+use Rattle.rows.proofs.word_numbers.exactly.Reads as exactly-reads
 
 node-identifier-requires : tie.Need-node-identifier-requires
 node-identifier-requires c κs = search needs

@@ -1,10 +1,10 @@
 -- `exactly` meets its contract. Assumes nothing.
 use borrow.Author.Tests.{lt-ltb, le-ltb}
 use Rattle.rows.specs.Words.{exactly}
-use Rattle.structure.proofs.specifiers.exactly.Statement.{statement}
-use Rattle.structure.proofs.specifiers.exactly.Tie as tie
-use Rattle.structure.proofs.specifiers.exactly.Reads as reads
-use Rattle.structure.proofs.specifiers.exactly.Lts as lts
+use Rattle.rows.proofs.word_numbers.exactly.Statement.{statement}
+use Rattle.rows.proofs.word_numbers.exactly.Tie as tie
+use Rattle.rows.proofs.word_numbers.exactly.Reads as reads
+use Rattle.rows.proofs.word_numbers.exactly.Lts as lts
 
 returns : tie.Need-returns
 unfolding exactly
