@@ -1,7 +1,7 @@
 -- Document 01's example of a listing, from its node records.
 -- Assumes nothing.
 use mathlib.Core.Path.{_≡_, refl}
-use mathlib.Core.List.{List, [], _∷_, _++_}
+use mathlib.Core.List.{List, [], _∷_}
 use Prim.Native.Nat.{ℕ}
 use Rattle.rows.specs.Notation.{_is-one-of_}
 use Rattle.rows.specs.Words.{bytes}

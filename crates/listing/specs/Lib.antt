@@ -1,3 +1,4 @@
 pub mod Listing
+pub mod FileListing
 pub mod Laws
 pub mod Examples

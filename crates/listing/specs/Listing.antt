@@ -1,13 +1,13 @@
 -- What the program `listing` prints: document 01, end of "Rows worked out".
 -- Assumes nothing.
 use Prim.Native.Nat.{ℕ, zero, suc, _+_, _*_, _/_, min}
-use mathlib.Core.Bool.{Bool, true, false, _&&_}
+use mathlib.Core.Bool.{Bool, _&&_}
 use mathlib.Core.List.{List, [], _∷_, _++_}
 use lib.ListN.{length, getD}
 use lib.Dec.{eqb, ltb}
 use Rattle.rows.specs.Notation.{if_then_else_, _is-one-of_}
 use Rattle.rows.specs.Words.{bytes}
-use Rattle.reader.specs.Nodes.{node-width, number, G-node, B-node, L-node}
+use Rattle.reader.specs.Nodes.{number, G-node, B-node, L-node}
 use Rattle.text.specs.Text.{ended}
 
 abbrev pub space : ℕ

@@ -11,9 +11,8 @@ use text::put_byte;
 use text::put_bytes;
 use text::put_ended;
 ghost use mathlib.Core.Path.{_≡_};
-ghost use mathlib.Core.List.{_∷_, []};
-ghost use Prim.Native.Nat.{_+_, _*_, _≤_, _<_, min};
-ghost use lib.ListN.{length, getD, take};
+ghost use Prim.Native.Nat.{_+_, _*_, _≤_, _<_};
+ghost use lib.ListN.{length};
 ghost use Rattle.text.specs.Text.{Appended};
 ghost use Rattle.listing.specs.Listing.{accepted-line, letter as letter-of, listed, listing, node-line, node-lines, refused-line};
 

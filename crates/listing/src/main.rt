@@ -10,6 +10,8 @@ use type_name::export::type_name_read;
 ghost use mathlib.Core.Path.{_≡_};
 ghost use lib.ListN.{length};
 ghost use Rattle.io.specs.Counts.{Counts};
+ghost use Rattle.text.specs.Text.{Appended};
+ghost use Rattle.listing.specs.FileListing.{file-listing};
 
 // One byte more than a row file may have: input that fills it is too long, refusal 1.
 const INPUT_LENGTH: usize = 65537;
@@ -23,7 +25,8 @@ const TEXT_LENGTH: usize = 135255;
 // Puts the listing of a file in front of `text` and returns its length.
 fn list(file: &[u8], text: &mut [u8]) -> usize
     requires { ⌜ 135255 ≡ length (now text) ⌝ }
-    ensures { λ r. ⌜ Counts r (now (text .exit)) ⌝ }
+    ensures counted { λ r. ⌜ Counts r (now (text .exit)) ⌝ }
+    ensures listed { λ r. ⌜ Appended (now (text .entry)) 0 (file-listing (now (file .entry))) r (now (text .exit)) ⌝ }
 {
     let mut tree = [0u32; TREE_LENGTH];
     let mut answer = [0u32; 4];

@@ -1,7 +1,7 @@
 -- What the program `replay` prints.
 -- Assumes nothing.
 use Prim.Native.Nat.{ℕ}
-use mathlib.Core.List.{List, [], _∷_, _++_}
+use mathlib.Core.List.{List, _++_}
 use Rattle.rows.specs.Words.{bytes}
 use Rattle.text.specs.Text.{decimal}
 

@@ -12,7 +12,7 @@ use crate::report::print_total;
 use libc::STDIN_FILENO;
 use type_name::export::type_name_read;
 ghost use mathlib.Core.Path.{_≡_};
-ghost use Prim.Native.Nat.{_*_, _≤_};
+ghost use Prim.Native.Nat.{_*_};
 ghost use lib.ListN.{getD, length};
 ghost use Rattle.replay.specs.Replay.{stored-at};
 
@@ -40,6 +40,7 @@ const FILE_LENGTH: usize = 65537;
 // No case has a longer buffer.
 const BUFFER_LENGTH: usize = 8192;
 
+// Four bytes for each of its numbers.
 const STORED_LENGTH: usize = 32768;
 
 // A proved loop ends; no list has so many cases.

@@ -3,7 +3,6 @@
 use libc::STDOUT_FILENO;
 use text::put_bytes;
 use text::put_decimal;
-ghost use mathlib.Core.Path.{_≡_};
 ghost use Prim.Native.Nat.{_+_, _≤_};
 ghost use lib.ListN.{length};
 ghost use Rattle.text.specs.Text.{Appended};

@@ -1,7 +1,7 @@
 // Text that a program prints, made in a lent buffer. Each function puts its text behind the first `at` bytes and returns how many bytes there are then.
 
 ghost use mathlib.Core.Path.{_≡_};
-ghost use mathlib.Core.List.{[], _∷_, _++_};
+ghost use mathlib.Core.List.{[], _∷_};
 ghost use Prim.Native.Nat.{_+_, _≤_, _<_};
 ghost use lib.ListN.{length};
 ghost use Rattle.text.specs.Text.{Appended, decimal, last-digit, last-digits, ended};

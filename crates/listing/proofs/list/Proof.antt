@@ -1,10 +1,13 @@
 -- `list` meets its contract. Assumes nothing.
-use mathlib.Core.Path.{_∙_, sym}
+use mathlib.Core.Path.{_∙_, refl, sym}
 use native.Mathlib.Omega.{arith}
 use borrow.Author.Needs.{needs}
 use Prim.Native.Nat.{ℕ, _≤_}
-use lib.ListN.{length, length-replicate}
+use mathlib.Core.List.{[], _∷_}
+use lib.ListN.{length, length-replicate, replicate}
 use lib.Seq.{length-take-le}
+use Rattle.text.specs.Laws.Appending.{appended-as}
+use Rattle.listing.specs.Laws.Whole.{whole}
 use borrow.Author.Needs.{needs}
 use Rattle.listing.proofs.list.Statement.{statement}
 use Rattle.listing.proofs.list.Tie as tie
@@ -38,7 +41,7 @@ returns : tie.Need-returns
 returns c = let end = c .before .before .put-listing .result in
     let list = c .before .before .put-listing .last .0 in
     let within : end ≤ length list = omega (arith, c .before .before .put-listing .ensures .1, c .before .before .put-listing .kept .0) in
-    (within, sym (length-take-le end list within))
+    ((within, sym (length-take-le end list within)), appended-as (whole (c .before .before .before .before .before .before .before .before .before .before .before .before .before .args .file .now) (replicate 6144 0) (0 ∷ 0 ∷ 0 ∷ 0 ∷ []) (c .before .before .before .before .before .before .before .before .type-name-read .last .1 .1 .0) (c .before .before .before .before .before .before .before .before .type-name-read .last .1 .0) (c .before .before .before .before .before .before .before .before .type-name-read .ensures .1 .1 .buffered) (c .before .before .before .before .before .before .before .before .type-name-read .ensures .1 .0) refl refl) (c .before .before .put-listing .ensures .0))
 
 pub list-spec : {M : Type 1} → statement M
 list-spec =

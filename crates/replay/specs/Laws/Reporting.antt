@@ -1,11 +1,10 @@
 -- How long the lines of a report are.
 -- Assumes nothing.
 use Prim.Native.Nat.{ℕ, _+_, _≤_}
-use mathlib.Core.List.{List, _++_}
+use mathlib.Core.List.{List}
 use native.Mathlib.Omega.{arith}
 use lib.ListN.{length, length-append}
 use Rattle.rows.specs.Words.{bytes}
-use Rattle.text.specs.Text.{decimal}
 use Rattle.text.specs.Laws.Appending.{decimal-long}
 use Rattle.replay.specs.Report.{labelled, place-text, values-text}
 

@@ -1,10 +1,8 @@
 -- `put_listing` meets its contract. Assumes nothing.
-use Prim.Native.Nat.{_+_, _*_, _≤_}
-use lib.ListN.{getD, length}
+use lib.ListN.{getD}
 use native.Mathlib.Omega.{arith}
 use borrow.Author.Needs.{needs}
 use Rattle.text.specs.Laws.Appending.{appended-then, appended-as}
-use Rattle.listing.specs.Listing.{listed}
 use Rattle.listing.specs.Laws.Lines.{listing-refused, listing-accepted, accepted-long, refused-long, nodes-long, listed-fits}
 use borrow.Author.Needs.{needs}
 use Rattle.listing.proofs.lines.put_listing.Statement.{statement}

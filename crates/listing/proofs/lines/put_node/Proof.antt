@@ -3,7 +3,6 @@ use Prim.Native.Nat.{_+_, _*_}
 use lib.ListN.{getD}
 use native.Mathlib.Omega.{arith}
 use borrow.Author.Needs.{needs}
-use Rattle.text.specs.Text.{ended}
 use Rattle.text.specs.Laws.Appending.{appended-then, appended-as, ended-long}
 use Rattle.listing.specs.Listing.{kind-of, token-of, extent-of, space}
 use Rattle.listing.specs.Laws.Lines.{node-pieces}
