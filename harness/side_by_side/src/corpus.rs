@@ -140,11 +140,11 @@ fn answer(name: &Name, setting: &Setting, tally: &mut Tally) -> Outcome {
     Outcome::Answered(answer)
 }
 
-/// `ok`, `no NUMBER TOKEN DETAIL` or `lexer`, then the name's fields and, if the lexer turned it down, its message.
+/// `ok NODES`, `no NUMBER TOKEN DETAIL` or `lexer`, then the name's fields and, if the lexer turned it down, its message.
 fn verdict(name: &Name, outcome: &Outcome) -> String {
     let (word, message) = match outcome {
         Outcome::NotLexed(message) => ("lexer".to_owned(), message.as_str()),
-        Outcome::Answered(Answer::Accepted { .. }) => ("ok".to_owned(), ""),
+        Outcome::Answered(Answer::Accepted { nodes, .. }) => (format!("ok {nodes}"), ""),
         Outcome::Answered(Answer::Refused {
             number,
             token,
