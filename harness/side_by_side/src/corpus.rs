@@ -32,7 +32,7 @@ struct Setting {
     flag: u8,
 }
 
-const SETTINGS: [Setting; 4] = [
+const SETTINGS: [Setting; 5] = [
     Setting {
         title: "standard 255, flag 1",
         standard: meant,
@@ -53,10 +53,20 @@ const SETTINGS: [Setting; 4] = [
         standard: latest,
         flag: 0,
     },
+    Setting {
+        title: "earliest standard, flag 1",
+        standard: earliest,
+        flag: 1,
+    },
 ];
 
 fn meant(_: HostLanguage) -> u8 {
     MEANT_STANDARD
+}
+
+/// The first standard that each language declares.
+fn earliest(_: HostLanguage) -> u8 {
+    0
 }
 
 /// The last standard that the language declares.

@@ -16,7 +16,7 @@ side_by_side [--seed S] [--count N] [--style NAME]
     N generated files (default 100000, seed 1), those of the harness's styles in turn.
 side_by_side --corpus FILE [--verdicts FILE]
     The type names of a file (language, source and text, parted by tabs), lexed by the original's lexer: standard 255 and
-    the latest, flag 1 and 0. Verdicts: what each name gets with standard 255 and flag 1.
+    the latest with flag 1 and 0, the earliest with flag 1. Verdicts: what each name gets with standard 255 and flag 1.
 ";
 
 /// Where the head has its structure flag.
