@@ -8,11 +8,15 @@ use harness::answer::Answer;
 use harness::generate::{self, Case};
 use harness::oracle;
 
+mod corpus;
 mod reader;
 
 const HELP: &str = "\
 side_by_side [--seed S] [--count N] [--style NAME]
     N generated files (default 100000, seed 1), those of the harness's styles in turn.
+side_by_side --corpus FILE [--verdicts FILE]
+    The type names of a file (language, source and text, parted by tabs), lexed by the original's lexer: standard 255 and
+    the latest with flag 1 and 0, the earliest with flag 1. Verdicts: what each name gets with standard 255 and flag 1.
 ";
 
 /// Where the head has its structure flag.
@@ -27,6 +31,9 @@ fn main() -> ExitCode {
         let at = arguments.iter().position(|word| word == name)?;
         arguments.get(at + 1)
     };
+    if let Some(file) = value("--corpus") {
+        return of_corpus(file, value("--verdicts").map(String::as_str));
+    }
     let number = |name: &str, or: u64| value(name).map_or(Some(or), |text| text.parse().ok());
     let (Some(seed), Some(count)) = (number("--seed", 1), number("--count", 100_000)) else {
         eprint!("{HELP}");
@@ -44,6 +51,17 @@ fn main() -> ExitCode {
     tally.report()
 }
 
+fn of_corpus(file: &str, verdicts: Option<&str>) -> ExitCode {
+    let mut tally = Tally::default();
+    match corpus::compare(file, verdicts, &mut tally) {
+        Ok(()) => tally.report(),
+        Err(message) => {
+            eprintln!("side_by_side: {message}");
+            ExitCode::FAILURE
+        }
+    }
+}
+
 #[derive(Default)]
 struct Tally {
     files: u64,
@@ -53,7 +71,8 @@ struct Tally {
 }
 
 impl Tally {
-    fn add(&mut self, case: &Case) {
+    /// Runs both readers and gives the original's answer.
+    fn add(&mut self, case: &Case) -> Answer {
         self.files += 1;
         let mut expected = vec![DIRT; case.tree_len];
         let answer = oracle::answer(&case.file, &mut expected);
@@ -75,6 +94,7 @@ impl Tally {
                 );
             }
         }
+        answer
     }
 
     fn report(&self) -> ExitCode {

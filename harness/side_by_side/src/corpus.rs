@@ -1,0 +1,202 @@
+//! Real type names: each is lexed by the original's lexer, and its row goes to both readers.
+
+use std::collections::BTreeMap;
+use std::fs;
+
+use harness::answer::Answer;
+use harness::format::{Head, NUMBERS_PER_TOKEN, Row};
+use harness::generate::Case;
+use harness::lexed;
+use harness::profile::{self, HostLanguage, MEANT_STANDARD};
+
+use crate::Tally;
+
+/// Steps enough for every name.
+const ALLOWANCE: u32 = 1_000_000;
+
+/// Numbers of the buffer beyond those that a row needs.
+const SPARE: usize = 5;
+
+/// A line of the corpus.
+struct Name<'a> {
+    language: HostLanguage,
+    label: &'a str,
+    source: &'a str,
+    text: &'a str,
+}
+
+/// A standard number and a structure flag, with what they are called.
+struct Setting {
+    title: &'static str,
+    standard: fn(HostLanguage) -> u8,
+    flag: u8,
+}
+
+const SETTINGS: [Setting; 5] = [
+    Setting {
+        title: "standard 255, flag 1",
+        standard: meant,
+        flag: 1,
+    },
+    Setting {
+        title: "latest standard, flag 1",
+        standard: latest,
+        flag: 1,
+    },
+    Setting {
+        title: "standard 255, flag 0",
+        standard: meant,
+        flag: 0,
+    },
+    Setting {
+        title: "latest standard, flag 0",
+        standard: latest,
+        flag: 0,
+    },
+    Setting {
+        title: "earliest standard, flag 1",
+        standard: earliest,
+        flag: 1,
+    },
+];
+
+fn meant(_: HostLanguage) -> u8 {
+    MEANT_STANDARD
+}
+
+/// The first standard that each language declares.
+fn earliest(_: HostLanguage) -> u8 {
+    0
+}
+
+/// The last standard that the language declares.
+fn latest(language: HostLanguage) -> u8 {
+    let declared = profile::standards(language).filter(|&standard| standard != MEANT_STANDARD);
+    declared.max().expect("a language has standards")
+}
+
+/// What became of a name before or in the readers.
+enum Outcome {
+    /// The lexer's message.
+    NotLexed(String),
+    Answered(Answer),
+}
+
+/// Compares both readers on every name of the file and prints the counts. With `verdicts`, each name with its outcome under
+/// the first setting is written there, one a line.
+pub fn compare(file: &str, verdicts: Option<&str>, tally: &mut Tally) -> Result<(), String> {
+    let content = fs::read_to_string(file).map_err(|error| format!("{file}: {error}"))?;
+    let names: Vec<Name> = content.lines().map(name).collect::<Result<_, _>>()?;
+    println!("{} names", names.len());
+    for (number, setting) in SETTINGS.iter().enumerate() {
+        let mut counts = Counts::default();
+        let mut lines = String::new();
+        for name in &names {
+            let outcome = answer(name, setting, tally);
+            counts.add(name, &outcome);
+            lines.push_str(&verdict(name, &outcome));
+        }
+        counts.print(setting.title);
+        if let (0, Some(path)) = (number, verdicts) {
+            fs::write(path, lines).map_err(|error| format!("{path}: {error}"))?;
+        }
+    }
+    Ok(())
+}
+
+fn name(line: &str) -> Result<Name<'_>, String> {
+    let mut fields = line.splitn(3, '\t');
+    let (Some(label), Some(source), Some(text)) = (fields.next(), fields.next(), fields.next())
+    else {
+        return Err(format!("no language, source and text: {line}"));
+    };
+    let language = match label {
+        "c" => HostLanguage::C,
+        "cpp" => HostLanguage::Cpp,
+        "fortran" => HostLanguage::Fortran,
+        _ => return Err(format!("no language: {line}")),
+    };
+    Ok(Name {
+        language,
+        label,
+        source,
+        text,
+    })
+}
+
+/// Runs both readers on the name's row, the buffer dirty before: just as long as the row needs, and longer.
+fn answer(name: &Name, setting: &Setting, tally: &mut Tally) -> Outcome {
+    let standard = (setting.standard)(name.language);
+    let profile = profile::profile(name.language, standard).expect("a standard of the language");
+    let tokens = match lexed::tokens(name.text, profile) {
+        Ok(tokens) => tokens,
+        Err(message) => return Outcome::NotLexed(message),
+    };
+    let room = NUMBERS_PER_TOKEN * tokens.len();
+    let head = Head {
+        language: profile::language_number(name.language),
+        standard,
+        flag: setting.flag,
+        allowance: ALLOWANCE,
+    };
+    let file = Row { head, tokens }.write();
+    let mut case = Case {
+        file,
+        tree_len: room,
+    };
+    let answer = tally.add(&case);
+    case.tree_len = room + SPARE;
+    tally.add(&case);
+    Outcome::Answered(answer)
+}
+
+/// `ok NODES`, `no NUMBER TOKEN DETAIL` or `lexer`, then the name's fields and, if the lexer turned it down, its message.
+fn verdict(name: &Name, outcome: &Outcome) -> String {
+    let (word, message) = match outcome {
+        Outcome::NotLexed(message) => ("lexer".to_owned(), message.as_str()),
+        Outcome::Answered(Answer::Accepted { nodes, .. }) => (format!("ok {nodes}"), ""),
+        Outcome::Answered(Answer::Refused {
+            number,
+            token,
+            detail,
+            ..
+        }) => (format!("no {number} {token} {detail}"), ""),
+    };
+    let Name {
+        label,
+        source,
+        text,
+        ..
+    } = name;
+    format!("{word}\t{label}\t{source}\t{text}\t{message}\n")
+}
+
+/// How many names had which outcome, by language.
+#[derive(Default)]
+struct Counts(BTreeMap<String, BTreeMap<String, usize>>);
+
+impl Counts {
+    fn add(&mut self, name: &Name, outcome: &Outcome) {
+        let key = match outcome {
+            Outcome::NotLexed(_) => "not lexed".to_owned(),
+            Outcome::Answered(answer) => match answer.refusal() {
+                None => "accepted".to_owned(),
+                Some(number) => format!("refused {number}"),
+            },
+        };
+        let language = self.0.entry(name.label.to_owned()).or_default();
+        *language.entry(key).or_default() += 1;
+    }
+
+    fn print(&self, title: &str) {
+        println!("{title}");
+        for (language, outcomes) in &self.0 {
+            let names: usize = outcomes.values().sum();
+            let parts: Vec<String> = outcomes
+                .iter()
+                .map(|(key, n)| format!("{key} {n}"))
+                .collect();
+            println!("  {language}: {names} names, {}", parts.join(", "));
+        }
+    }
+}
