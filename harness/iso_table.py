@@ -518,8 +518,8 @@ NOT_COMPARED = '''
 Structure flag 0, where only brackets, angles and boundaries are tested. Combinations of four and more builtin words. What a name means: whether it is
 declared, a type, a template, a constant or a pack, how many arguments it takes, whether a type is complete. Alignment specifiers, which C23 allows in the
 type name of a compound literal. Fixed source form, where blanks mean nothing. Fortran 77 and 90 by a compiler of their own, C23, C++23 and Fortran 2023 by
-a compiler that has all of them. The standards' texts were not at hand to a program: what the column "ISO" says is written by hand, and checked only
-by the compilers beside it.
+a compiler that has all of them. The standards' texts were not at hand: the column "ISO" and the clauses are written from knowledge
+of them; the compilers beside it check the column, and nothing checks the clauses.
 '''
 WORDS_TEXT = '''
 The 20 builtin words give 1,770 combinations of one, two or three, repetitions included; where `long` stands twice all orders are tried, since the
