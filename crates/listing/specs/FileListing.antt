@@ -11,5 +11,6 @@ use Rattle.listing.specs.Listing.{listing}
 abbrev pub tree-length : ℕ
 tree-length = 6144
 
+-- "The program `listing` reads a file": what it prints.
 unfoldable pub file-listing : List ℕ → List ℕ
 file-listing file = listing (numbers-of (answer file tree-length)) (final-buffer file (replicate tree-length 0))

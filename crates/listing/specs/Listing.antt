@@ -10,9 +10,11 @@ use Rattle.rows.specs.Words.{bytes}
 use Rattle.reader.specs.Nodes.{number, G-node, B-node, L-node}
 use Rattle.text.specs.Text.{ended}
 
+-- Between the numbers of a line.
 abbrev pub space : ℕ
 space = 32
 
+-- At the end of a line.
 abbrev pub newline : ℕ
 newline = 10
 
@@ -21,13 +23,15 @@ unfoldable pub letter : ℕ → ℕ
 unfolding bytes
 letter kind = getD (bytes "TGBLA") kind 63
 
--- The numbers of node record number i.
+-- "Kind" of node record number i.
 unfoldable pub kind-of : List ℕ → ℕ → ℕ
 kind-of tree i = getD tree (3 * i) 0
 
+-- "Token number" of it.
 unfoldable pub token-of : List ℕ → ℕ → ℕ
 token-of tree i = getD tree (3 * i + 1) 0
 
+-- "Extent" of it.
 unfoldable pub extent-of : List ℕ → ℕ → ℕ
 extent-of tree i = getD tree (3 * i + 2) 0
 

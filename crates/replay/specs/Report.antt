@@ -14,6 +14,7 @@ unfoldable pub place-text : (case : ℕ) (part : List ℕ) (place : ℕ) → Lis
 unfolding bytes
 place-text case part place = labelled (bytes "case ") case ++ bytes ", " ++ part ++ labelled (bytes " ") place
 
+-- The two numbers that differ.
 unfoldable pub values-text : (expected given : ℕ) → List ℕ
 unfolding bytes
 values-text expected given = labelled (bytes ": expected ") expected ++ labelled (bytes ", got ") given ++ bytes "\n"

@@ -9,6 +9,7 @@ use Rattle.structure.specs.declared.specifiers.SpecifierFlags.{Specifier
 use Rattle.structure.specs.declared.specifiers.SpecifierMove.{SpecifierMove}
 use Rattle.structure.specs.declared.specifiers.SpecifierMove.the-variants as M
 
+-- The variables of `validate_c_decl_specifiers`.
 abbrev pub specifiers-of : (seen : List ℕ) → SpecifierFlags → Specifiers
 specifiers-of seen f = specifiers seen (f .named) (f .elaborated) (f .«bit_int») (f .scoped)
 
