@@ -4,7 +4,7 @@ use mathlib.Core.Path.{_≡_}
 use mathlib.Core.Bool.{Bool}
 use mathlib.Core.List.{List}
 use Rattle.structure.specs.Moves.{Move, stop, on, on-if}
-use Rattle.structure.specs.Specifiers.{Specifiers, specifiers, once-more}
+use Rattle.structure.specs.Specifiers.{Specifiers, specifiers, once-more, no-builtin-word}
 use Rattle.structure.specs.declared.specifiers.SpecifierFlags.{SpecifierFlags}
 use Rattle.structure.specs.declared.specifiers.SpecifierMove.{SpecifierMove}
 use Rattle.structure.specs.declared.specifiers.SpecifierMove.the-variants as M
@@ -30,6 +30,14 @@ pub record SpecifierMoves (seen : List ℕ) (r : SpecifierMove) (m : Move Specif
   pub is : specifier-move-of seen r ≡ m
   pub known : Known r
 
--- Go on if a condition holds, `after` what the variables then are: a move that serves whatever was counted before.
+-- A move that serves whatever was counted before.
+abbrev pub Always : SpecifierMove → (arm : (seen : List ℕ) → Move Specifiers) → Type 0
+Always r arm = (seen : List ℕ) → SpecifierMoves seen r (arm seen)
+
+-- Go on if a condition holds, `after` what the variables then are.
 abbrev pub Goes : SpecifierMove → (ok : Bool) → (after : (seen : List ℕ) → Specifiers) → Type 0
-Goes r ok after = (seen : List ℕ) → SpecifierMoves seen r (on-if ok (after seen))
+Goes r ok after = Always r (λ seen. on-if ok (after seen))
+
+-- A move that serves whatever was counted before, where `none` says whether that is without a builtin type word.
+abbrev pub Serves : SpecifierMove → (none : Bool) → (arm : (seen : List ℕ) → Move Specifiers) → Type 0
+Serves r none arm = (seen : List ℕ) → none ≡ no-builtin-word seen → SpecifierMoves seen r (arm seen)

@@ -114,15 +114,14 @@ fn too_often(seen: &[usize; 29], words: &[u8]) -> bool
     requires { ⌜ Counted (now words) ⌝ }
     ensures { λ r. ⌜ r ≡ too-often (now (words .entry)) (now (seen .entry)) ⌝ }
 {
+    let mut over = false;
     let mut i = 0;
     while i < words.len() {
         let word = words[i];
-        if most(word) < times(seen, word) {
-            return true;
-        }
+        over = over | (most(word) < times(seen, word));
         i += 1;
     }
-    false
+    over
 }
 
 // `builtin_words.len()`

@@ -1,7 +1,8 @@
 // The declaration specifiers at the head of a C or C++ type name: `validate_c_decl_specifiers`, and what its loop does at a node, one arm of the
-// original's `match` after another. `before`: word of the node before the node; `right`, `second`: shape and word of the node after it.
+// original's `match` after another. `before`: word of the node before the node; `right`, `second`: shape and word of the node after it. `seen`: how
+// often each builtin type word and each qualifier was seen, by word number; `none`: no builtin type word was, kept beside the counts so that a name
+// need not look through them.
 
-use crate::combination::builtin_words;
 use crate::combination::has;
 use crate::combination::validate_c_bit_int_sign;
 use crate::combination::validate_c_builtin_combination;
@@ -32,7 +33,7 @@ ghost use Rattle.rows.specs.Words.{exactly, «_BitInt»};
 ghost use Rattle.structure.specs.Shapes.{exact-word};
 ghost use Rattle.structure.specs.Specifiers.{once-more, no-builtin-word, validate-c-bit-int-sign, specifiers-end, parenthesis-word, qualifier-word, elaborated-word, builtin-word, name-word, specifier-scope, specifier-list, specifier-node, validate-c-decl-specifiers};
 ghost use Rattle.structure.specs.Stands.{Ready, Of};
-ghost use Rattle.structure.specs.RepresentedSpecifiers.{specifiers-of, SpecifierMoves, Goes};
+ghost use Rattle.structure.specs.RepresentedSpecifiers.{specifiers-of, SpecifierMoves, Always, Goes, Serves};
 
 // What was seen besides the words that are counted.
 pub struct SpecifierFlags {
@@ -42,20 +43,11 @@ pub struct SpecifierFlags {
     pub scoped: bool,
 }
 
-// The variables of `validate_c_decl_specifiers`; `seen`: how often each builtin type word and each qualifier was seen, by word number.
-pub struct Specifiers {
-    pub seen: [usize; 29],
-    pub flags: SpecifierFlags,
-}
-
-const NOTHING_SEEN: Specifiers = Specifiers {
-    seen: [0; 29],
-    flags: SpecifierFlags {
-        named: false,
-        elaborated: false,
-        bit_int: false,
-        scoped: false,
-    },
+const NO_FLAGS: SpecifierFlags = SpecifierFlags {
+    named: false,
+    elaborated: false,
+    bit_int: false,
+    scoped: false,
 };
 
 // `Count`: go on, with the word seen once more. A move does not hold the counts, since an enum can hold no array.
@@ -73,21 +65,15 @@ pub fn exact_word(tree: &[u32], kinds: &[u8], words: &[u8], at: usize, to: usize
     exactly(node_identifier(tree, kinds, words, at, to))
 }
 
-// `builtin_words.is_empty()`
-fn no_builtin_word(seen: &[usize; 29]) -> bool
-    ensures { λ r. ⌜ r ≡ no-builtin-word (now (seen .entry)) ⌝ }
-{
-    builtin_words(seen) == 0
-}
-
 // Whether the builtin type words may stand before such a word and its parentheses.
-fn builtin_words_are_valid(word: u8, seen: &[usize; 29]) -> bool
+fn builtin_words_are_valid(word: u8, seen: &[usize; 29], none: bool) -> bool
+    requires { ⌜ none ≡ no-builtin-word (now seen) ⌝ }
     ensures { λ r. ⌜ r ≡ (if eqb word «_BitInt» then validate-c-bit-int-sign (now (seen .entry)) else no-builtin-word (now (seen .entry))) ⌝ }
 {
     if word == BIT_INT {
         return validate_c_bit_int_sign(seen);
     }
-    no_builtin_word(seen)
+    none
 }
 
 fn on_if(ok: bool, flags: SpecifierFlags) -> SpecifierMove
@@ -109,28 +95,33 @@ fn count_if(ok: bool, word: u8, flags: SpecifierFlags) -> SpecifierMove
     SpecifierMove::Stop(false)
 }
 
-fn specifiers_end(st: Specifiers) -> bool
-    ensures { λ r. ⌜ r ≡ specifiers-end (specifiers-of (st .seen) (st .flags)) ⌝ }
+fn specifiers_end(seen: &[usize; 29], none: bool, flags: SpecifierFlags) -> bool
+    requires { ⌜ none ≡ no-builtin-word (now seen) ⌝ }
+    ensures { λ r. ⌜ r ≡ specifiers-end (specifiers-of (now (seen .entry)) flags) ⌝ }
 {
-    let flags = st.flags;
     if flags.scoped {
         return false;
     }
     if flags.bit_int {
-        return validate_c_bit_int_sign(&st.seen);
+        return validate_c_bit_int_sign(seen);
     }
-    if !no_builtin_word(&st.seen) {
-        return validate_c_builtin_combination(&st.seen);
+    if !none {
+        return validate_c_builtin_combination(seen);
     }
     flags.named | flags.elaborated
 }
 
 // A word that makes a specifier with the parentheses after it.
-fn parenthesis_word(word: u8, st: Specifiers) -> SpecifierMove
-    ensures { λ r. ⌜ SpecifierMoves (st .seen) r (parenthesis-word word (specifiers-of (st .seen) (st .flags))) ⌝ }
+fn parenthesis_word(
+    word: u8,
+    seen: &[usize; 29],
+    none: bool,
+    flags: SpecifierFlags,
+) -> SpecifierMove
+    requires { ⌜ none ≡ no-builtin-word (now seen) ⌝ }
+    ensures { λ r. ⌜ SpecifierMoves (now (seen .entry)) r (parenthesis-word word (specifiers-of (now (seen .entry)) flags)) ⌝ }
 {
-    let flags = st.flags;
-    let valid = builtin_words_are_valid(word, &st.seen);
+    let valid = builtin_words_are_valid(word, seen, none);
     on_if(
         !flags.named & !flags.elaborated & valid,
         SpecifierFlags {
@@ -142,22 +133,25 @@ fn parenthesis_word(word: u8, st: Specifiers) -> SpecifierMove
     )
 }
 
-fn qualifier_word(word: u8, st: Specifiers) -> SpecifierMove
+fn qualifier_word(word: u8, seen: &[usize; 29], flags: SpecifierFlags) -> SpecifierMove
     requires { ⌜ word < 29 ⌝ }
-    ensures { λ r. ⌜ SpecifierMoves (st .seen) r (qualifier-word word (specifiers-of (st .seen) (st .flags))) ⌝ }
+    ensures { λ r. ⌜ SpecifierMoves (now (seen .entry)) r (qualifier-word word (specifiers-of (now (seen .entry)) flags)) ⌝ }
 {
-    let flags = st.flags;
-    let new = !has(&st.seen, word);
+    let new = !has(seen, word);
     count_if(new, word, flags)
 }
 
 // The first word of an elaborated name.
-fn elaborated_word(language: u8, word: u8, right: u8, st: Specifiers) -> SpecifierMove
-    ensures { λ r. ⌜ SpecifierMoves (st .seen) r (elaborated-word language word right (specifiers-of (st .seen) (st .flags))) ⌝ }
+fn elaborated_word(
+    language: u8,
+    word: u8,
+    right: u8,
+    none: bool,
+    flags: SpecifierFlags,
+) -> SpecifierMove
+    ensures { λ r. ⌜ Serves r none (λ seen. elaborated-word language word right (specifiers-of seen flags)) ⌝ }
 {
-    let flags = st.flags;
     let foreign = (language == C) & is_cpp_elaborated_word(word);
-    let none = no_builtin_word(&st.seen);
     on_if(
         !foreign & !flags.named & none & !flags.elaborated & (right == IDENTIFIER),
         SpecifierFlags {
@@ -169,11 +163,10 @@ fn elaborated_word(language: u8, word: u8, right: u8, st: Specifiers) -> Specifi
     )
 }
 
-fn builtin_word(word: u8, st: Specifiers) -> SpecifierMove
+fn builtin_word(word: u8, flags: SpecifierFlags) -> SpecifierMove
     requires { ⌜ word < 29 ⌝ }
-    ensures { λ r. ⌜ SpecifierMoves (st .seen) r (builtin-word word (specifiers-of (st .seen) (st .flags))) ⌝ }
+    ensures { λ r. ⌜ Always r (λ seen. builtin-word word (specifiers-of seen flags)) ⌝ }
 {
-    let flags = st.flags;
     let sign = flags.bit_int & is_sign(word);
     count_if(
         !flags.elaborated & (!flags.named | sign),
@@ -188,11 +181,9 @@ fn builtin_word(word: u8, st: Specifiers) -> SpecifierMove
 }
 
 // Any other word: a name.
-fn name_word(st: Specifiers) -> SpecifierMove
-    ensures { λ r. ⌜ SpecifierMoves (st .seen) r (name-word (specifiers-of (st .seen) (st .flags))) ⌝ }
+fn name_word(none: bool, flags: SpecifierFlags) -> SpecifierMove
+    ensures { λ r. ⌜ Serves r none (λ seen. name-word (specifiers-of seen flags)) ⌝ }
 {
-    let flags = st.flags;
-    let none = no_builtin_word(&st.seen);
     on_if(
         none & (!flags.named | flags.scoped | flags.elaborated),
         SpecifierFlags {
@@ -205,11 +196,15 @@ fn name_word(st: Specifiers) -> SpecifierMove
 }
 
 // `::` after a name, or leading: then it must introduce a name and no keyword.
-fn specifier_scope(language: u8, right: u8, second: u8, st: Specifiers) -> SpecifierMove
-    ensures { λ r. ⌜ SpecifierMoves (st .seen) r (specifier-scope language right second (specifiers-of (st .seen) (st .flags))) ⌝ }
+fn specifier_scope(
+    language: u8,
+    right: u8,
+    second: u8,
+    none: bool,
+    flags: SpecifierFlags,
+) -> SpecifierMove
+    ensures { λ r. ⌜ Serves r none (λ seen. specifier-scope language right second (specifiers-of seen flags)) ⌝ }
 {
-    let flags = st.flags;
-    let none = no_builtin_word(&st.seen);
     let leading = !flags.elaborated & none & (right == IDENTIFIER) & !is_keyword(second);
     on_if(
         (language == CPP) & !flags.scoped & (flags.named | leading),
@@ -223,10 +218,9 @@ fn specifier_scope(language: u8, right: u8, second: u8, st: Specifiers) -> Speci
 }
 
 // A template argument list.
-fn specifier_list(language: u8, st: Specifiers) -> SpecifierMove
-    ensures { λ r. ⌜ SpecifierMoves (st .seen) r (specifier-list language (specifiers-of (st .seen) (st .flags))) ⌝ }
+fn specifier_list(language: u8, flags: SpecifierFlags) -> SpecifierMove
+    ensures { λ r. ⌜ Always r (λ seen. specifier-list language (specifiers-of seen flags)) ⌝ }
 {
-    let flags = st.flags;
     on_if((language == CPP) & flags.named & !flags.scoped, flags)
 }
 
@@ -238,37 +232,39 @@ fn specifier_node(
     word: u8,
     right: u8,
     second: u8,
-    st: Specifiers,
+    seen: &[usize; 29],
+    none: bool,
+    flags: SpecifierFlags,
 ) -> SpecifierMove
-    ensures { λ r. ⌜ SpecifierMoves (st .seen) r (specifier-node language before shape word right second (specifiers-of (st .seen) (st .flags))) ⌝ }
+    requires { ⌜ none ≡ no-builtin-word (now seen) ⌝ }
+    ensures { λ r. ⌜ SpecifierMoves (now (seen .entry)) r (specifier-node language before shape word right second (specifiers-of (now (seen .entry)) flags)) ⌝ }
 {
     let identifier = shape == IDENTIFIER;
     if (shape == PARENTHESIZED) & is_parenthesis_word(before) {
-        let flags = st.flags;
         return SpecifierMove::On(flags);
     }
     if identifier & is_parenthesis_word(word) & (right == PARENTHESIZED) {
-        return parenthesis_word(word, st);
+        return parenthesis_word(word, seen, none, flags);
     }
     if identifier & is_c_family_declarator_qualifier(word) {
-        return qualifier_word(word, st);
+        return qualifier_word(word, seen, flags);
     }
     if identifier & is_elaborated_word(word) {
-        return elaborated_word(language, word, right, st);
+        return elaborated_word(language, word, right, none, flags);
     }
     if identifier & is_c_builtin_type_word(word) {
-        return builtin_word(word, st);
+        return builtin_word(word, flags);
     }
     if identifier {
-        return name_word(st);
+        return name_word(none, flags);
     }
     if shape == SCOPE {
-        return specifier_scope(language, right, second, st);
+        return specifier_scope(language, right, second, none, flags);
     }
     if shape == TEMPLATE_ARGUMENTS {
-        return specifier_list(language, st);
+        return specifier_list(language, flags);
     }
-    SpecifierMove::Stop(specifiers_end(st))
+    SpecifierMove::Stop(specifiers_end(seen, none, flags))
 }
 
 pub fn validate_c_decl_specifiers(
@@ -282,7 +278,9 @@ pub fn validate_c_decl_specifiers(
     requires { ⌜ Ready (now tree) (now kinds) (now words) from to ⌝ }
     ensures { λ r. ⌜ Of (now (tree .entry)) (now (kinds .entry)) from to (λ x. r ≡ validate-c-decl-specifiers language (now (kinds .entry)) (now (words .entry)) x) ⌝ }
 {
-    let mut st = NOTHING_SEEN;
+    let mut seen: [usize; 29] = [0; 29];
+    let mut none = true;
+    let mut flags = NO_FLAGS;
     let mut before = NO_WORD;
     let mut at = from;
     while at < to {
@@ -291,20 +289,31 @@ pub fn validate_c_decl_specifiers(
         let next = node_end(tree, kinds, at, to);
         let second = exact_word(tree, kinds, words, next, to);
         let right = shape_at(tree, kinds, next, to);
-        let step = specifier_node(language, before, shape, word, right, second, st);
+        let step = specifier_node(
+            language,
+            before,
+            shape,
+            word,
+            right,
+            second,
+            &seen,
+            none,
+            flags,
+        );
         match step {
             SpecifierMove::Stop(answer) => return answer,
-            SpecifierMove::On(flags) => {
-                st.flags = flags;
+            SpecifierMove::On(after) => {
+                flags = after;
             }
-            SpecifierMove::Count(counted, flags) => {
+            SpecifierMove::Count(counted, after) => {
                 let i = counted as usize;
-                st.seen[i] += 1;
-                st.flags = flags;
+                seen[i] += 1;
+                none = none & !is_c_builtin_type_word(counted);
+                flags = after;
             }
         }
         before = word;
         at = next;
     }
-    specifiers_end(st)
+    specifiers_end(&seen, none, flags)
 }

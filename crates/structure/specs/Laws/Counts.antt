@@ -1,17 +1,19 @@
 -- The walks over a list of words that count those seen. Assumes nothing.
 use Prim.Native.Nat.{ℕ, zero, suc, _+_, _≤_, _<_}
 use mathlib.Core.Path.{_≡_, refl, sym, ap, _∙_}
-use mathlib.Core.Bool.{Bool, true, false, true≢false, _&&_, _||_}
+use mathlib.Core.Bool.{Bool, true, false, true≢false, _&&_, _||_, not}
 use mathlib.Core.List.{List, [], _∷_}
 use native.Mathlib.Omega.{arith}
 use native.Mathlib.Numerals.{add-one}
 use lib.ListN.{length, getD, drop, drop-of-length-le}
 use lib.Seq.{drop-cons}
-use lib.Dec.{ltb, eqb}
-use borrow.Author.Tests.{lt-ltb, le-ltb, ltb-true}
-use Rattle.rows.specs.Notation.{if_then_else_}
+use lib.Dec.{ltb, eqb, eqb·zero-suc, eqb·suc-zero, eqb·suc-suc}
+use borrow.Author.Tests.{lt-ltb, ltb-true}
+use Rattle.rows.specs.Notation.{if_then_else_, _is-one-of_}
 use Rattle.rows.specs.Words.{long}
-use Rattle.structure.specs.Specifiers.{times, has, how-many, too-often}
+use Rattle.rows.specs.Laws.Tests.{or-false, or-assoc}
+use Rattle.structure.specs.Sets.{builtin-type-words, is-c-builtin-type-word}
+use Rattle.structure.specs.Specifiers.{times, has, once-more, how-many, builtin-words, no-builtin-word, too-often}
 
 -- Every word of the list has a count.
 abbrev pub Counted : (words : List ℕ) → Type 0
@@ -43,9 +45,9 @@ module _ (words seen : List ℕ) (i : ℕ) where
   unfolding how-many
   none-left n total h e = let f : n + 0 ≡ total = rw (drop-of-length-le words {i = i} h) at e in omega (arith, f)
 
-  pub not-often : length words ≤ i → too-often words seen ≡ too-often (drop i words) seen → false ≡ too-often words seen
+  pub all-often : {over total : Bool} → length words ≤ i → (over || too-often (drop i words) seen) ≡ total → over ≡ total
   unfolding too-often
-  not-often h e = sym (e ∙ rw (drop-of-length-le words {i = i} h))
+  all-often {over} {total} h e = let f : (over || false) ≡ total = rw (drop-of-length-le words {i = i} h) at e in sym (or-false over) ∙ f
 
   module _ (h : i < length words) where
     pub one-met : (n total : ℕ) → has (getD words i 0) seen ≡ true → n + how-many (drop i words) seen ≡ total
@@ -62,12 +64,44 @@ module _ (words seen : List ℕ) (i : ℕ) where
         let f : n + how-many (drop i words) seen ≡ n + how-many (drop (suc i) words) seen = rw (drop-cons words i 0 h, p) in
         rw (add-one i) (omega (arith, e, f))
 
-    pub one-too-often : {m t : ℕ} → m ≡ (if eqb (getD words i 0) long then 2 else 1) → t ≡ times (getD words i 0) seen → m < t
-        → too-often words seen ≡ too-often (drop i words) seen → true ≡ too-often words seen
+    pub one-often : (over : Bool) {total : Bool} {m t : ℕ} → m ≡ (if eqb (getD words i 0) long then 2 else 1) → t ≡ times (getD words i 0) seen
+        → (over || too-often (drop i words) seen) ≡ total → ((over || ltb m t) || too-often (drop (i + 1) words) seen) ≡ total
     unfolding too-often
-    one-too-often {m} {t} p q l e = sym (e ∙ rw (drop-cons words i 0 h, ← p, ← q, lt-ltb m t l))
+    one-often over {total} {m} {t} p q e =
+        let f : (over || too-often (drop i words) seen) ≡ (over || (ltb m t || too-often (drop (suc i) words) seen)) = rw (drop-cons words i 0 h, ← p, ← q) in
+        rw (add-one i) (sym (or-assoc over (ltb m t) (too-often (drop (suc i) words) seen)) ∙ sym f ∙ e)
 
-    pub one-not-too-often : {m t : ℕ} → m ≡ (if eqb (getD words i 0) long then 2 else 1) → t ≡ times (getD words i 0) seen → t ≤ m
-        → too-often words seen ≡ too-often (drop i words) seen → too-often words seen ≡ too-often (drop (i + 1) words) seen
-    unfolding too-often
-    one-not-too-often {m} {t} p q l e = e ∙ rw (add-one i, drop-cons words i 0 h, ← p, ← q, le-ltb m t l)
+-- ---- whether any was seen
+
+-- A word that is counted was seen.
+has-once-more : (l : List ℕ) (w v : ℕ) → w < length l → has v (once-more w l) ≡ (eqb w v || has v l)
+unfolding has once-more times
+has-once-more [] w v h = absurd (omega arith)
+has-once-more (a ∷ l) zero zero h = lt-ltb 0 (suc a) (omega arith)
+has-once-more (a ∷ l) zero (suc v) h = rw (eqb·zero-suc v) refl
+has-once-more (a ∷ l) (suc w) zero h = rw (eqb·suc-zero w) refl
+has-once-more (a ∷ l) (suc w) (suc v) h = rw (eqb·suc-suc w v) (has-once-more l w v (omega arith))
+
+none-of-more : (b : Bool) (n : ℕ) → eqb (if b then suc n else n) 0 ≡ (not b && eqb n 0)
+none-of-more true n = eqb·suc-zero n
+none-of-more false n = refl
+
+apart : (is had none met : Bool) → (not (is || had) && (none && not met)) ≡ ((not had && none) && not (is || met))
+apart true true true met = refl
+apart true true false met = refl
+apart true false true met = refl
+apart true false false met = refl
+apart false true none met = refl
+apart false false none met = refl
+
+none-once-more : (ws l : List ℕ) (w : ℕ) → w < length l → eqb (how-many ws (once-more w l)) 0 ≡ (eqb (how-many ws l) 0 && not (w is-one-of ws))
+unfolding how-many _is-one-of_
+none-once-more [] l w h = refl
+none-once-more (v ∷ ws) l w h =
+    rw (none-of-more (has v (once-more w l)) (how-many ws (once-more w l)), none-of-more (has v l) (how-many ws l), has-once-more l w v h, none-once-more ws l w h)
+    (apart (eqb w v) (has v l) (eqb (how-many ws l) 0) (w is-one-of ws))
+
+-- No builtin type word was seen, and the one that is counted is none.
+pub no-builtin-once-more : (l : List ℕ) (w : ℕ) → w < length l → no-builtin-word (once-more w l) ≡ (no-builtin-word l && not (is-c-builtin-type-word w))
+unfolding no-builtin-word builtin-words is-c-builtin-type-word
+no-builtin-once-more l w h = none-once-more builtin-type-words l w h

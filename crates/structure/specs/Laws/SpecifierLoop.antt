@@ -1,18 +1,20 @@
 -- The loop of `validate_c_decl_specifiers`. Assumes nothing.
 use Prim.Native.Nat.{ℕ, zero, suc, _+_, _*_, _≤_, _<_}
 use mathlib.Core.Path.{_≡_, refl, sym, ap, _∙_, subst}
-use mathlib.Core.Bool.{Bool, true, false, true≢false}
+use mathlib.Core.Bool.{Bool, true, false, true≢false, _&&_, not}
 use mathlib.Core.List.{List, [], _∷_}
 use native.Mathlib.Omega.{arith}
 use native.Mathlib.Numerals.{add-one}
-use lib.ListN.{length, getD, set, replicate}
+use lib.ListN.{length, length-set, getD, set, replicate}
 use Rattle.reader.specs.Nodes.{Nodes, none, node, count}
 use Rattle.structure.specs.Shapes.{empty, next, shape, exact-word}
 use Rattle.structure.specs.Moves.{Move, stop, on}
-use Rattle.structure.specs.Specifiers.{Specifiers, times, once-more, none-seen, specifiers-end, specifier-node, specifiers-from, validate-c-decl-specifiers}
+use Rattle.structure.specs.Sets.{builtin-type-words, is-c-builtin-type-word}
+use Rattle.structure.specs.Specifiers.{Specifiers, times, has, how-many, builtin-words, no-builtin-word, once-more, none-seen, specifiers-end, specifier-node, specifiers-from, validate-c-decl-specifiers}
 use Rattle.structure.specs.Stands.{Stands, Ready, Of, below}
 use Rattle.structure.specs.RepresentedSpecifiers.{specifiers-of, specifier-move-of, Known, SpecifierMoves}
 use Rattle.structure.specs.Laws.Ranges.{first, nothing-left, unique}
+use Rattle.structure.specs.Laws.Counts.{no-builtin-once-more}
 use Rattle.structure.specs.declared.specifiers.SpecifierFlags.{SpecifierFlags}
 use Rattle.structure.specs.declared.specifiers.SpecifierMove.{SpecifierMove}
 use Rattle.structure.specs.declared.specifiers.SpecifierMove.the-variants as M
@@ -53,20 +55,26 @@ module _ (lang : ℕ) (kinds words : List ℕ) where
   from-on none lw st h e = absurd (true≢false h)
   from-on (node k i b x) lw st h e = rw (e, specifiers-from)
 
+-- The word that a move counts has a count.
+pub counted-known : {seen : List ℕ} {r : SpecifierMove} {m : Move Specifiers} {v : ℕ} {g : SpecifierFlags} → SpecifierMoves seen r m → r ≡ M.Count v g → v < 29
+counted-known {v = v} {g = g} mv q = subst Known q (mv .known)
+
 -- `counts`: no word was seen more often than there are nodes before the node, so the code can count.
-pub record SpecifierLoop (lang : ℕ) (tree kinds words : List ℕ) (from to : ℕ) (seen : List ℕ) (f : SpecifierFlags) (lw at : ℕ) : Type 0 where
+pub record SpecifierLoop (lang : ℕ) (tree kinds words : List ℕ) (from to : ℕ) (seen : List ℕ) (no-builtin : Bool) (f : SpecifierFlags) (lw at : ℕ) : Type 0 where
   pub rest : Nodes
   pub stands : Stands tree kinds at to rest
   pub room : 3 * to ≤ length tree
   pub few : to ≤ 65536
   pub worded : length words ≡ length kinds
   pub counts : (w : ℕ) → getD seen w 0 ≤ at
+  pub sized : length seen ≡ 29
+  pub kept : no-builtin ≡ no-builtin-word seen
   pub is : (x : Nodes) → Stands tree kinds from to x
       → validate-c-decl-specifiers lang kinds words x ≡ specifiers-from lang kinds words rest lw (specifiers-of seen f)
 
 pub specifiers-start : (lang : ℕ) {tree kinds words : List ℕ} {from to : ℕ} → Ready tree kinds words from to
-    → SpecifierLoop lang tree kinds words from to (replicate 29 0) (record { named = false; elaborated = false; «bit_int» = false; scoped = false }) 0 from
-unfolding validate-c-decl-specifiers none-seen
+    → SpecifierLoop lang tree kinds words from to (replicate 29 0) true (record { named = false; elaborated = false; «bit_int» = false; scoped = false }) 0 from
+unfolding validate-c-decl-specifiers none-seen no-builtin-word builtin-words builtin-type-words how-many has times
 specifiers-start lang r = record {
   rest = r .formed .nodes;
   stands = r .formed .stands;
@@ -74,11 +82,13 @@ specifiers-start lang r = record {
   few = r .formed .few;
   worded = r .worded;
   counts = λ w. omega (arith, zeros 29 w);
+  sized = refl;
+  kept = refl;
   is = λ x s. rw (unique s (r .formed .stands)) refl;
 }
 
-module _ {lang : ℕ} {tree kinds words : List ℕ} {from to : ℕ} {seen : List ℕ} {f : SpecifierFlags} {lw at : ℕ}
-    (lp : SpecifierLoop lang tree kinds words from to seen f lw at) where
+module _ {lang : ℕ} {tree kinds words : List ℕ} {from to : ℕ} {seen : List ℕ} {no-builtin : Bool} {f : SpecifierFlags} {lw at : ℕ}
+    (lp : SpecifierLoop lang tree kinds words from to seen no-builtin f lw at) where
   pub specifiers-ready : Ready tree kinds words at to
   specifiers-ready = record { formed = record { nodes = lp .rest; stands = lp .stands; room = lp .room; few = lp .few }; worded = lp .worded }
 
@@ -113,27 +123,30 @@ module _ {lang : ℕ} {tree kinds words : List ℕ} {from to : ℕ} {seen : List
           sym (lp .is x t ∙ from-stop lang kinds words (lp .rest) lw (specifiers-of seen f) (first (lp .stands) h .full) (done-here ∙ ap (specifier-move-of seen) q))
 
       -- The loop at the next node, with other counts and flags.
-      on-to : {l : List ℕ} {g : SpecifierFlags} → specifier-move-of seen r ≡ on (specifiers-of l g) → ((v : ℕ) → getD l v 0 ≤ e)
-          → SpecifierLoop lang tree kinds words from to l g w e
-      on-to {l} {g} q n = record {
+      on-to : {l : List ℕ} {b : Bool} {g : SpecifierFlags} → specifier-move-of seen r ≡ on (specifiers-of l g) → ((v : ℕ) → getD l v 0 ≤ e) → length l ≡ 29
+          → b ≡ no-builtin-word l → SpecifierLoop lang tree kinds words from to l b g w e
+      on-to {l} {b} {g} q n z k = record {
         rest = next (lp .rest);
         stands = after-it;
         room = lp .room;
         few = lp .few;
         worded = lp .worded;
         counts = n;
+        sized = z;
+        kept = k;
         is = λ x t. rw (wd (lp .rest) (lp .stands)) (lp .is x t ∙ from-on lang kinds words (lp .rest) lw (specifiers-of seen f) (first (lp .stands) h .full) (done-here ∙ q));
       }
 
-      pub specifiers-on : {g : SpecifierFlags} → r ≡ M.On g → SpecifierLoop lang tree kinds words from to seen g w e
-      specifiers-on q = on-to (ap (specifier-move-of seen) q) (λ v. omega (arith, lp .counts v, specifiers-further))
+      pub specifiers-on : {g : SpecifierFlags} → r ≡ M.On g → SpecifierLoop lang tree kinds words from to seen no-builtin g w e
+      specifiers-on q = on-to (ap (specifier-move-of seen) q) (λ v. omega (arith, lp .counts v, specifiers-further)) (lp .sized) (lp .kept)
 
-      pub specifiers-count : {v : ℕ} {g : SpecifierFlags} → r ≡ M.Count v g → SpecifierLoop lang tree kinds words from to (set seen v (getD seen v 0 + 1)) g w e
+      pub specifiers-count : {v : ℕ} {g : SpecifierFlags} → r ≡ M.Count v g → {b : Bool} → b ≡ is-c-builtin-type-word v
+          → SpecifierLoop lang tree kinds words from to (set seen v (getD seen v 0 + 1)) (no-builtin && not b) g w e
       unfolding once-more times
-      specifiers-count {v} q =
+      specifiers-count {v} q {b} t =
           rw (add-one (getD seen v 0))
-          (on-to (ap (specifier-move-of seen) q) (λ u. omega (arith, one-more seen u v, lp .counts u, specifiers-further)))
-
--- The word that a move counts has a count.
-pub counted-known : {seen : List ℕ} {r : SpecifierMove} {m : Move Specifiers} {v : ℕ} {g : SpecifierFlags} → SpecifierMoves seen r m → r ≡ M.Count v g → v < 29
-counted-known {v = v} {g = g} mv q = subst Known q (mv .known)
+          (on-to
+          (ap (specifier-move-of seen) q)
+          (λ u. omega (arith, one-more seen u v, lp .counts u, specifiers-further))
+          (length-set seen v (suc (getD seen v 0)) ∙ lp .sized)
+          (rw (t, lp .kept) (sym (no-builtin-once-more seen v (rw (lp .sized) (counted-known mv q))))))

@@ -1,11 +1,12 @@
 -- `too_often` meets its contract. Assumes nothing.
 use Prim.Native.Nat.{_-_, _≤_}
-use mathlib.Core.Path.{_≡_, refl, sym, _∙_}
+use mathlib.Core.Path.{_≡_, refl}
+use mathlib.Core.Bool.{_||_}
 use native.Mathlib.Omega.{arith}
 use borrow.Author.Needs.{needs}
 use lib.ListN.{length, drop}
 use Rattle.structure.specs.Specifiers.{too-often}
-use Rattle.structure.specs.Laws.Counts.{one-too-often, one-not-too-often, not-often}
+use Rattle.structure.specs.Laws.Counts.{one-often, all-often}
 use Rattle.structure.proofs.combination.too_often.Statement.{statement}
 use Rattle.structure.proofs.combination.too_often.Tie as tie
 use Rattle.structure.proofs.combination.too_often.Reads as reads
@@ -14,10 +15,10 @@ use Rattle.structure.proofs.combination.most.Reads as most-reads
 use Rattle.structure.proofs.combination.times.Reads as times-reads
 
 abbrev Inv-loop : tie.InvT-loop
-Inv-loop seen words i₀ i = (i ≤ length words) × (too-often words seen ≡ too-often (drop i words) seen)
+Inv-loop seen words over₀ i₀ over i = (i ≤ length words) × ((over || too-often (drop i words) seen) ≡ too-often words seen)
 
 abbrev μ-loop : tie.MeasureT-loop
-μ-loop seen words i₀ i = length words - i
+μ-loop seen words over₀ i₀ over i = length words - i
 
 loop-holds : tie.Need-loop-holds Inv-loop μ-loop
 loop-holds c = (omega arith, refl)
@@ -31,9 +32,6 @@ most-requires c κs = omega arith
 times-requires : tie.Need-times-requires Inv-loop μ-loop
 times-requires c κs = c .before .before .before .before .before .pre _ (omega arith)
 
-returns : tie.Need-returns Inv-loop μ-loop
-returns c = one-too-often (c .before .before .before .before .before .before .before .args .words .now) (c .before .before .before .before .before .before .before .args .seen .now) (c .before .before .before .before .before .loop .i) (omega arith) (c .before .before .most .ensures) (c .before .times .ensures) (c .if1 .taken) (c .before .before .before .before .before .loop .inv .1)
-
 add-i : tie.Need-add-i Inv-loop μ-loop
 add-i c = omega arith
 
@@ -41,10 +39,10 @@ loop-less : tie.Need-loop-less Inv-loop μ-loop
 loop-less c = omega arith
 
 loop-again : tie.Need-loop-again Inv-loop μ-loop
-loop-again c = (omega arith, one-not-too-often (c .before .before .before .before .before .before .before .args .words .now) (c .before .before .before .before .before .before .before .args .seen .now) (c .before .before .before .before .before .loop .i) (omega arith) (c .before .before .most .ensures) (c .before .times .ensures) (c .if1 .left) (c .before .before .before .before .before .loop .inv .1))
+loop-again c = (omega arith, one-often (c .before .before .before .before .before .before .args .words .now) (c .before .before .before .before .before .before .args .seen .now) (c .before .before .before .before .loop .i) (omega arith) (c .before .before .before .before .loop .over) (c .before .most .ensures) (c .times .ensures) (c .before .before .before .before .loop .inv .1))
 
-returns-2 : tie.Need-returns-2 Inv-loop μ-loop
-returns-2 c = not-often (c .before .before .before .args .words .now) (c .before .before .before .args .seen .now) (c .before .loop .i) (omega arith) (c .before .loop .inv .1)
+returns : tie.Need-returns Inv-loop μ-loop
+returns c = all-often (c .before .before .before .args .words .now) (c .before .before .before .args .seen .now) (c .before .loop .i) (omega arith) (c .before .loop .inv .1)
 
 pub too-often-spec : {M : Type 1} → statement M
 too-often-spec =
@@ -56,8 +54,7 @@ too-often-spec =
     shared-slice-read-word
     most-requires
     times-requires
-    returns
     add-i
     loop-less
     loop-again
-    returns-2)
+    returns)

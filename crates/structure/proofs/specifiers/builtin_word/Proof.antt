@@ -18,7 +18,7 @@ count-if-requires c κs = search needs
 
 returns : tie.Need-returns
 unfolding builtin-word
-returns c = moved (c .count-if .ensures _) (rw (c .before .before .before .before .is-sign .ensures))
+returns c = λ seen. moved (c .count-if .ensures seen) (rw (c .before .before .before .before .is-sign .ensures))
 
 pub builtin-word-spec : {M : Type 1} → statement M
 builtin-word-spec = tie.close (tie.spec is-sign-requires count-if-requires returns)

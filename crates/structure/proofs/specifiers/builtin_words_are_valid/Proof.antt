@@ -7,7 +7,6 @@ use Rattle.structure.proofs.specifiers.builtin_words_are_valid.Tie as t
 use Rattle.structure.proofs.specifiers.builtin_words_are_valid.Reads as reads
 use Rattle.structure.proofs.specifiers.builtin_words_are_valid.Lts as lts
 use Rattle.structure.proofs.combination.validate_c_bit_int_sign.Reads as validate-c-bit-int-sign-reads
-use Rattle.structure.proofs.specifiers.no_builtin_word.Reads as no-builtin-word-reads
 
 validate-c-bit-int-sign-requires : tie.Need-validate-c-bit-int-sign-requires
 validate-c-bit-int-sign-requires c κs = search needs
@@ -15,13 +14,9 @@ validate-c-bit-int-sign-requires c κs = search needs
 returns : tie.Need-returns
 returns c = rw (eq-eqb _ _ (c .before .if1 .taken)) (c .validate-c-bit-int-sign .ensures)
 
-no-builtin-word-requires : tie.Need-no-builtin-word-requires
-no-builtin-word-requires c κs = search needs
-
 returns-2 : tie.Need-returns-2
-returns-2 c = rw (ne-eqb _ _ (c .before .if1 .left)) (c .no-builtin-word .ensures)
+returns-2 c = rw (ne-eqb _ _ (c .if1 .left)) (c .before .pre)
 
 pub builtin-words-are-valid-spec : {M : Type 1} → statement M
 builtin-words-are-valid-spec =
-    tie.close
-    (tie.spec validate-c-bit-int-sign-requires returns no-builtin-word-requires returns-2)
+    tie.close (tie.spec validate-c-bit-int-sign-requires returns returns-2)

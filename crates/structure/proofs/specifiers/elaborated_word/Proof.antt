@@ -8,23 +8,17 @@ use Rattle.structure.proofs.specifiers.elaborated_word.Tie as tie
 use Rattle.structure.proofs.specifiers.elaborated_word.Reads as reads
 use Rattle.structure.proofs.specifiers.elaborated_word.Lts as lts
 use Rattle.structure.proofs.sets.is_cpp_elaborated_word.Reads as is-cpp-elaborated-word-reads
-use Rattle.structure.proofs.specifiers.no_builtin_word.Reads as no-builtin-word-reads
 use Rattle.structure.proofs.specifiers.on_if.Reads as on-if-reads
 
 is-cpp-elaborated-word-requires : tie.Need-is-cpp-elaborated-word-requires
 is-cpp-elaborated-word-requires c κs = search needs
-
-no-builtin-word-requires : tie.Need-no-builtin-word-requires
-no-builtin-word-requires c κs = search needs
 
 on-if-requires : tie.Need-on-if-requires
 on-if-requires c κs = search needs
 
 returns : tie.Need-returns
 unfolding elaborated-word
-returns c = moved (c .on-if .ensures _) (rw (c .before .before .before .before .before .before .is-cpp-elaborated-word .ensures, c .before .before .before .no-builtin-word .ensures))
+returns c = λ seen e. moved (c .on-if .ensures seen) (rw (c .before .before .before .is-cpp-elaborated-word .ensures, e))
 
 pub elaborated-word-spec : {M : Type 1} → statement M
-elaborated-word-spec =
-    tie.close
-    (tie.spec is-cpp-elaborated-word-requires no-builtin-word-requires on-if-requires returns)
+elaborated-word-spec = tie.close (tie.spec is-cpp-elaborated-word-requires on-if-requires returns)

@@ -7,18 +7,14 @@ use Rattle.structure.proofs.specifiers.name_word.Statement.{statement}
 use Rattle.structure.proofs.specifiers.name_word.Tie as tie
 use Rattle.structure.proofs.specifiers.name_word.Reads as reads
 use Rattle.structure.proofs.specifiers.name_word.Lts as lts
-use Rattle.structure.proofs.specifiers.no_builtin_word.Reads as no-builtin-word-reads
 use Rattle.structure.proofs.specifiers.on_if.Reads as on-if-reads
-
-no-builtin-word-requires : tie.Need-no-builtin-word-requires
-no-builtin-word-requires c κs = search needs
 
 on-if-requires : tie.Need-on-if-requires
 on-if-requires c κs = search needs
 
 returns : tie.Need-returns
 unfolding name-word
-returns c = moved (c .on-if .ensures _) (rw (c .before .before .before .before .no-builtin-word .ensures))
+returns c = λ seen e. moved (c .on-if .ensures seen) (rw e)
 
 pub name-word-spec : {M : Type 1} → statement M
-name-word-spec = tie.close (tie.spec no-builtin-word-requires on-if-requires returns)
+name-word-spec = tie.close (tie.spec on-if-requires returns)

@@ -15,7 +15,7 @@ on-if-requires c κs = search needs
 
 returns : tie.Need-returns
 unfolding specifier-list
-returns c = moved (c .on-if .ensures _) refl
+returns c = λ seen. moved (c .on-if .ensures seen) refl
 
 pub specifier-list-spec : {M : Type 1} → statement M
 specifier-list-spec = tie.close (tie.spec on-if-requires returns)

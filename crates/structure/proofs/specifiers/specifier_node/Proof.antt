@@ -28,7 +28,7 @@ is-parenthesis-word-requires : tie.Need-is-parenthesis-word-requires
 is-parenthesis-word-requires c κs = search needs
 
 returns : tie.Need-returns
-returns c = record { is = specifier-1 _ _ _ _ _ _ _ (rw (c .before .before .is-parenthesis-word .ensures) at (c .before .if1 .taken)); known = tt }
+returns c = record { is = specifier-1 _ _ _ _ _ _ _ (rw (c .before .is-parenthesis-word .ensures) at (c .if1 .taken)); known = tt }
 
 is-parenthesis-word-requires-2 : tie.Need-is-parenthesis-word-requires-2
 is-parenthesis-word-requires-2 c κs = search needs
@@ -55,7 +55,7 @@ elaborated-word-requires : tie.Need-elaborated-word-requires
 elaborated-word-requires c κs = search needs
 
 returns-4 : tie.Need-returns-4
-returns-4 c = moved (c .elaborated-word .ensures) (specifier-4 _ _ _ _ _ _ _ (rw (c .before .before .before .before .before .before .before .before .is-parenthesis-word .ensures) at (c .before .before .before .before .before .before .before .if1 .left)) (rw (c .before .before .before .before .before .before .is-parenthesis-word2 .ensures) at (c .before .before .before .before .before .if2 .left)) (rw (c .before .before .before .before .is-c-family-declarator-qualifier .ensures) at (c .before .before .before .if3 .left)) (rw (c .before .before .is-elaborated-word .ensures) at (c .before .if4 .taken)))
+returns-4 c = moved (c .elaborated-word .ensures _ (c .before .before .before .before .before .before .before .before .before .pre)) (specifier-4 _ _ _ _ _ _ _ (rw (c .before .before .before .before .before .before .before .before .is-parenthesis-word .ensures) at (c .before .before .before .before .before .before .before .if1 .left)) (rw (c .before .before .before .before .before .before .is-parenthesis-word2 .ensures) at (c .before .before .before .before .before .if2 .left)) (rw (c .before .before .before .before .is-c-family-declarator-qualifier .ensures) at (c .before .before .before .if3 .left)) (rw (c .before .before .is-elaborated-word .ensures) at (c .before .if4 .taken)))
 
 is-c-builtin-type-word-requires : tie.Need-is-c-builtin-type-word-requires
 is-c-builtin-type-word-requires c κs = search needs
@@ -64,25 +64,25 @@ builtin-word-requires : tie.Need-builtin-word-requires
 builtin-word-requires c κs = builtin-counted _ (sym (c .before .is-c-builtin-type-word .ensures) ∙ and-right (eqb (c .before .before .before .before .before .before .before .before .before .before .args .shape) Identifier) (c .before .is-c-builtin-type-word .result) (c .if5 .taken))
 
 returns-5 : tie.Need-returns-5
-returns-5 c = moved (c .builtin-word .ensures) (specifier-5 _ _ _ _ _ _ _ (rw (c .before .before .before .before .before .before .before .before .before .before .is-parenthesis-word .ensures) at (c .before .before .before .before .before .before .before .before .before .if1 .left)) (rw (c .before .before .before .before .before .before .before .before .is-parenthesis-word2 .ensures) at (c .before .before .before .before .before .before .before .if2 .left)) (rw (c .before .before .before .before .before .before .is-c-family-declarator-qualifier .ensures) at (c .before .before .before .before .before .if3 .left)) (rw (c .before .before .before .before .is-elaborated-word .ensures) at (c .before .before .before .if4 .left)) (rw (c .before .before .is-c-builtin-type-word .ensures) at (c .before .if5 .taken)))
+returns-5 c = moved (c .builtin-word .ensures _) (specifier-5 _ _ _ _ _ _ _ (rw (c .before .before .before .before .before .before .before .before .before .before .is-parenthesis-word .ensures) at (c .before .before .before .before .before .before .before .before .before .if1 .left)) (rw (c .before .before .before .before .before .before .before .before .is-parenthesis-word2 .ensures) at (c .before .before .before .before .before .before .before .if2 .left)) (rw (c .before .before .before .before .before .before .is-c-family-declarator-qualifier .ensures) at (c .before .before .before .before .before .if3 .left)) (rw (c .before .before .before .before .is-elaborated-word .ensures) at (c .before .before .before .if4 .left)) (rw (c .before .before .is-c-builtin-type-word .ensures) at (c .before .if5 .taken)))
 
 name-word-requires : tie.Need-name-word-requires
 name-word-requires c κs = search needs
 
 returns-6 : tie.Need-returns-6
-returns-6 c = moved (c .name-word .ensures) (specifier-6 _ _ _ _ _ _ _ (rw (c .before .before .before .before .before .before .before .before .before .before .before .is-parenthesis-word .ensures) at (c .before .before .before .before .before .before .before .before .before .before .if1 .left)) (rw (c .before .before .before .before .before .before .before .before .before .is-parenthesis-word2 .ensures) at (c .before .before .before .before .before .before .before .before .if2 .left)) (rw (c .before .before .before .before .before .before .before .is-c-family-declarator-qualifier .ensures) at (c .before .before .before .before .before .before .if3 .left)) (rw (c .before .before .before .before .before .is-elaborated-word .ensures) at (c .before .before .before .before .if4 .left)) (rw (c .before .before .before .is-c-builtin-type-word .ensures) at (c .before .before .if5 .left)) (c .before .if6 .taken))
+returns-6 c = moved (c .name-word .ensures _ (c .before .before .before .before .before .before .before .before .before .before .before .before .pre)) (specifier-6 _ _ _ _ _ _ _ (rw (c .before .before .before .before .before .before .before .before .before .before .before .is-parenthesis-word .ensures) at (c .before .before .before .before .before .before .before .before .before .before .if1 .left)) (rw (c .before .before .before .before .before .before .before .before .before .is-parenthesis-word2 .ensures) at (c .before .before .before .before .before .before .before .before .if2 .left)) (rw (c .before .before .before .before .before .before .before .is-c-family-declarator-qualifier .ensures) at (c .before .before .before .before .before .before .if3 .left)) (rw (c .before .before .before .before .before .is-elaborated-word .ensures) at (c .before .before .before .before .if4 .left)) (rw (c .before .before .before .is-c-builtin-type-word .ensures) at (c .before .before .if5 .left)) (c .before .if6 .taken))
 
 specifier-scope-requires : tie.Need-specifier-scope-requires
 specifier-scope-requires c κs = search needs
 
 returns-7 : tie.Need-returns-7
-returns-7 c = moved (c .specifier-scope .ensures) (specifier-7 _ _ _ _ _ _ _ (rw (c .before .before .before .before .before .before .before .before .before .before .before .before .is-parenthesis-word .ensures) at (c .before .before .before .before .before .before .before .before .before .before .before .if1 .left)) (rw (c .before .before .before .before .before .before .before .before .before .before .is-parenthesis-word2 .ensures) at (c .before .before .before .before .before .before .before .before .before .if2 .left)) (rw (c .before .before .before .before .before .before .before .before .is-c-family-declarator-qualifier .ensures) at (c .before .before .before .before .before .before .before .if3 .left)) (rw (c .before .before .before .before .before .before .is-elaborated-word .ensures) at (c .before .before .before .before .before .if4 .left)) (rw (c .before .before .before .before .is-c-builtin-type-word .ensures) at (c .before .before .before .if5 .left)) (c .before .before .if6 .left) (eq-eqb _ _ (c .before .if7 .taken)))
+returns-7 c = moved (c .specifier-scope .ensures _ (c .before .before .before .before .before .before .before .before .before .before .before .before .before .pre)) (specifier-7 _ _ _ _ _ _ _ (rw (c .before .before .before .before .before .before .before .before .before .before .before .before .is-parenthesis-word .ensures) at (c .before .before .before .before .before .before .before .before .before .before .before .if1 .left)) (rw (c .before .before .before .before .before .before .before .before .before .before .is-parenthesis-word2 .ensures) at (c .before .before .before .before .before .before .before .before .before .if2 .left)) (rw (c .before .before .before .before .before .before .before .before .is-c-family-declarator-qualifier .ensures) at (c .before .before .before .before .before .before .before .if3 .left)) (rw (c .before .before .before .before .before .before .is-elaborated-word .ensures) at (c .before .before .before .before .before .if4 .left)) (rw (c .before .before .before .before .is-c-builtin-type-word .ensures) at (c .before .before .before .if5 .left)) (c .before .before .if6 .left) (eq-eqb _ _ (c .before .if7 .taken)))
 
 specifier-list-requires : tie.Need-specifier-list-requires
 specifier-list-requires c κs = search needs
 
 returns-8 : tie.Need-returns-8
-returns-8 c = moved (c .specifier-list .ensures) (specifier-8 _ _ _ _ _ _ _ (rw (c .before .before .before .before .before .before .before .before .before .before .before .before .before .is-parenthesis-word .ensures) at (c .before .before .before .before .before .before .before .before .before .before .before .before .if1 .left)) (rw (c .before .before .before .before .before .before .before .before .before .before .before .is-parenthesis-word2 .ensures) at (c .before .before .before .before .before .before .before .before .before .before .if2 .left)) (rw (c .before .before .before .before .before .before .before .before .before .is-c-family-declarator-qualifier .ensures) at (c .before .before .before .before .before .before .before .before .if3 .left)) (rw (c .before .before .before .before .before .before .before .is-elaborated-word .ensures) at (c .before .before .before .before .before .before .if4 .left)) (rw (c .before .before .before .before .before .is-c-builtin-type-word .ensures) at (c .before .before .before .before .if5 .left)) (c .before .before .before .if6 .left) (ne-eqb _ _ (c .before .before .if7 .left)) (eq-eqb _ _ (c .before .if8 .taken)))
+returns-8 c = moved (c .specifier-list .ensures _) (specifier-8 _ _ _ _ _ _ _ (rw (c .before .before .before .before .before .before .before .before .before .before .before .before .before .is-parenthesis-word .ensures) at (c .before .before .before .before .before .before .before .before .before .before .before .before .if1 .left)) (rw (c .before .before .before .before .before .before .before .before .before .before .before .is-parenthesis-word2 .ensures) at (c .before .before .before .before .before .before .before .before .before .before .if2 .left)) (rw (c .before .before .before .before .before .before .before .before .before .is-c-family-declarator-qualifier .ensures) at (c .before .before .before .before .before .before .before .before .if3 .left)) (rw (c .before .before .before .before .before .before .before .is-elaborated-word .ensures) at (c .before .before .before .before .before .before .if4 .left)) (rw (c .before .before .before .before .before .is-c-builtin-type-word .ensures) at (c .before .before .before .before .if5 .left)) (c .before .before .before .if6 .left) (ne-eqb _ _ (c .before .before .if7 .left)) (eq-eqb _ _ (c .before .if8 .taken)))
 
 specifiers-end-requires : tie.Need-specifiers-end-requires
 specifiers-end-requires c κs = search needs

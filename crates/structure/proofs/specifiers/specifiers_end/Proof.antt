@@ -8,7 +8,6 @@ use Rattle.structure.proofs.specifiers.specifiers_end.Reads as reads
 use Rattle.structure.proofs.specifiers.specifiers_end.Lts as lts
 use Rattle.structure.proofs.combination.validate_c_bit_int_sign.Reads as validate-c-bit-int-sign-reads
 use Rattle.structure.proofs.combination.validate_c_builtin_combination.Reads as validate-c-builtin-combination-reads
-use Rattle.structure.proofs.specifiers.no_builtin_word.Reads as no-builtin-word-reads
 
 returns : tie.Need-returns
 unfolding specifiers-end
@@ -19,21 +18,18 @@ validate-c-bit-int-sign-requires c κs = search needs
 
 returns-2 : tie.Need-returns-2
 unfolding specifiers-end
-returns-2 c = rw (c .before .before .before .before .if1 .left, c .before .before .before .if2 .taken) (c .validate-c-bit-int-sign .ensures)
-
-no-builtin-word-requires : tie.Need-no-builtin-word-requires
-no-builtin-word-requires c κs = search needs
+returns-2 c = rw (c .before .before .if1 .left, c .before .if2 .taken) (c .validate-c-bit-int-sign .ensures)
 
 validate-c-builtin-combination-requires : tie.Need-validate-c-builtin-combination-requires
 validate-c-builtin-combination-requires c κs = search needs
 
 returns-3 : tie.Need-returns-3
 unfolding specifiers-end
-returns-3 c = rw (c .before .before .before .before .before .before .before .before .if1 .left, c .before .before .before .before .before .before .before .if2 .left, ← c .before .before .before .before .no-builtin-word .ensures, c .before .before .before .if3 .taken) (c .validate-c-builtin-combination .ensures)
+returns-3 c = rw (c .before .before .before .if1 .left, c .before .before .if2 .left, ← c .before .before .before .before .pre, c .before .if3 .taken) (c .validate-c-builtin-combination .ensures)
 
 returns-4 : tie.Need-returns-4
 unfolding specifiers-end
-returns-4 c = rw (c .before .before .before .before .before .before .if1 .left, c .before .before .before .before .before .if2 .left, ← c .before .before .no-builtin-word .ensures, c .before .if3 .left)
+returns-4 c = rw (c .before .before .before .if1 .left, c .before .before .if2 .left, ← c .before .before .before .before .pre, c .before .if3 .left)
 
 pub specifiers-end-spec : {M : Type 1} → statement M
 specifiers-end-spec =
@@ -42,7 +38,6 @@ specifiers-end-spec =
     returns
     validate-c-bit-int-sign-requires
     returns-2
-    no-builtin-word-requires
     validate-c-builtin-combination-requires
     returns-3
     returns-4)
