@@ -8,9 +8,9 @@ use harness::answer::Answer;
 use harness::generate::exhaustive::{self, Alphabet};
 use harness::generate::{self, Case};
 use harness::oracle;
+use type_name::type_name_read;
 
 mod corpus;
-mod reader;
 
 const HELP: &str = "\
 side_by_side [--seed S] [--count N] [--style NAME]
@@ -109,16 +109,14 @@ impl Tally {
         let read_whole = matches!(answer.refusal(), None | Some(30) | Some(40));
         self.checked += u64::from(read_whole && case.file.get(FLAG) == Some(&1));
         let mut tree = vec![DIRT; case.tree_len];
-        let read = reader::read(&case.file, &mut tree);
-        if read.numbers != answer.numbers() || read.returned != read.numbers[0] || tree != expected
-        {
+        let mut numbers = [DIRT; 4];
+        let returned = type_name_read(&case.file, &mut tree, &mut numbers);
+        if numbers != answer.numbers() || returned != numbers[0] || tree != expected {
             self.differ += 1;
             if self.differ <= 10 {
                 let file: String = case.file.iter().map(|byte| format!("{byte:02x}")).collect();
-                println!(
-                    "differs: {file} room {} original {answer} new {:?}",
-                    case.tree_len, read.numbers
-                );
+                let room = case.tree_len;
+                println!("differs: {file} room {room} original {answer} new {numbers:?}");
             }
         }
         answer
