@@ -2,25 +2,9 @@
 //!
 //! A lexer's tokens become a row file with [`Row`]; [`parse_type_name`] reads it into a buffer of the caller's.
 //!
-//! ```
-//! use type_name::{CppStandard, Head, HostLanguageProfile, NodeKind, Row, TokenKind, parse_type_name, tree_for};
-//!
-//! let mut row = Row::new(Head {
-//!     profile: HostLanguageProfile::Cpp(CppStandard::Cpp11),
-//!     structure: true,
-//!     allowance: 1_000,
-//! });
-//! row.push(TokenKind::Identifier, "Lane", 0..4);
-//! row.push(TokenKind::Less, "<", 4..5);
-//! row.push(TokenKind::Identifier, "Key", 5..8);
-//! row.push(TokenKind::Greater, ">", 8..9);
-//!
-//! let mut tree = tree_for(row.bytes());
-//! let accepted = parse_type_name(row.bytes(), &mut tree)?;
-//! let kinds: Vec<NodeKind> = accepted.top_level(&tree).map(|node| node.kind).collect();
-//! assert_eq!(kinds, [NodeKind::Token, NodeKind::List]);
-//! # Ok::<(), type_name::Refusal>(())
-//! ```
+#![doc = "```"]
+#![doc = include_str!("../examples/lane.rs")]
+#![doc = "```"]
 //!
 //! # What is proved, and what is not
 //!
@@ -28,8 +12,8 @@
 //! that comprises, `include/type_name.h` what the caller of that function sees to.
 //!
 //! Not proved: this crate. It sees to what no contract covers by handing over slices, which are aligned, as long as they
-//! say, never null and, as two of the three are `&mut`, apart from each other; it gives the numbers names; and it lays out
-//! row files, which the proved reader refuses if they are laid out wrongly.
+//! say, never null and, as two of the three are `&mut`, apart from each other. It gives the numbers names and lays out row
+//! files; tests hold both to document 01.
 
 mod answer;
 mod numbered;
