@@ -90,6 +90,19 @@ impl Answer {
             Self::Refused { number, .. } => Some(number),
         }
     }
+
+    /// The answer as callers of the proved reader get it.
+    pub fn numbers(self) -> [u32; 4] {
+        match self {
+            Self::Accepted { nodes, steps } => [0, nodes, steps, 0],
+            Self::Refused {
+                number,
+                token,
+                detail,
+                steps,
+            } => [number, token, detail, steps],
+        }
+    }
 }
 
 /// The first line of a listing.

@@ -156,24 +156,11 @@ fn write(case: &Case, fill: u32, list: &mut Vec<u8>) {
     let stored = &tree[..stored.map_or(0, |last| last + 1)];
     let head = [case.file.len() as u32, case.tree_len as u32, fill];
     let end = [stored.len() as u32, behind];
-    put(list, head.into_iter().chain(numbers(answer)).chain(end));
+    put(list, head.into_iter().chain(answer.numbers()).chain(end));
     list.extend(&case.file);
     put(list, stored.iter().copied());
 }
 
 fn put(list: &mut Vec<u8>, numbers: impl Iterator<Item = u32>) {
     list.extend(numbers.flat_map(u32::to_le_bytes));
-}
-
-/// The four numbers of an answer record.
-fn numbers(answer: Answer) -> [u32; 4] {
-    match answer {
-        Answer::Accepted { nodes, steps } => [0, nodes, steps, 0],
-        Answer::Refused {
-            number,
-            token,
-            detail,
-            steps,
-        } => [number, token, detail, steps],
-    }
 }

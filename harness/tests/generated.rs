@@ -1,9 +1,11 @@
 //! What the generated cases are good for.
 
 use std::collections::BTreeSet;
+use std::ops::RangeInclusive;
 
 use harness::answer::{Answer, Refusal};
-use harness::format::Row;
+use harness::format::{Head, Row, Token};
+use harness::generate::exhaustive::{ALPHABETS, ANGLES, Alphabet, BRACKETS};
 use harness::generate::words::{KNOWN_WORDS, mixed};
 use harness::generate::{Case, EXHAUSTIVE, STYLES, around, cases, exhaustive};
 use harness::kind::Kind;
@@ -115,11 +117,77 @@ fn the_allowance_decides_25_and_nothing_else() {
 
 #[test]
 fn exhaustive_rows_are_all_rows() {
-    let alphabet = exhaustive::alphabet();
-    let size = alphabet.len();
-    let rows: Vec<_> = exhaustive::rows(alphabet, 3).collect();
-    assert_eq!(rows.len(), 1 + size + size * size + size * size * size);
-    let distinct: BTreeSet<String> = rows.iter().map(|row| format!("{row:?}")).collect();
-    assert_eq!(distinct.len(), rows.len());
-    assert_eq!(exhaustive::rows(Vec::new(), 3).count(), 1);
+    for (alphabet, size) in ALPHABETS.into_iter().zip([13, 9, 7]) {
+        let of_lengths = |lengths| exhaustive::rows(alphabet.tokens(), lengths);
+        let rows: Vec<_> = of_lengths(0..=3).collect();
+        assert_eq!(rows.len(), 1 + size + size * size + size * size * size);
+        let distinct: BTreeSet<String> = rows.iter().map(|row| format!("{row:?}")).collect();
+        assert_eq!(distinct.len(), rows.len());
+        assert!(rows.is_sorted_by_key(Vec::len));
+        let longer: Vec<_> = of_lengths(2..=3).collect();
+        assert_eq!(longer, rows[1 + size..]);
+        assert_eq!(of_lengths(RangeInclusive::new(3, 2)).count(), 0);
+    }
+    assert_eq!(exhaustive::rows(Vec::new(), 0..=3).count(), 1);
+    assert_eq!(exhaustive::rows(Vec::new(), 1..=3).count(), 0);
+}
+
+#[test]
+fn the_long_rows_are_as_many_as_they_should_be() {
+    let count = |alphabet: &Alphabet, lengths| exhaustive::rows(alphabet.tokens(), lengths).count();
+    assert_eq!(
+        count(&BRACKETS, 0..=6),
+        1 + 9 + 81 + 729 + 6_561 + 59_049 + 531_441
+    );
+    assert_eq!(count(&ANGLES, 6..=7), 117_649 + 823_543);
+}
+
+#[test]
+fn an_exhaustive_row_is_read_in_every_language_with_both_flags() {
+    let tokens = vec![Token::word("A"), Token::plain(Kind::Star)];
+    let mut heads = BTreeSet::new();
+    for case in exhaustive::each_way(tokens.clone()) {
+        assert_eq!(case.tree_len, 12);
+        let row = Row::read(&case.file).unwrap();
+        assert_eq!(row.tokens, tokens);
+        let Head {
+            language,
+            standard,
+            flag,
+            ..
+        } = row.head;
+        assert!(heads.insert((language, standard, flag)));
+    }
+    assert_eq!(heads.len(), exhaustive::WAYS);
+    assert!(
+        heads
+            .iter()
+            .all(|&(language, standard, _)| language < 3 && standard == 255)
+    );
+}
+
+#[test]
+fn the_small_alphabet_has_the_shortest_row_of_22() {
+    let [
+        word,
+        less,
+        greater,
+        left,
+        right,
+        left_bracket,
+        right_bracket,
+    ] = ANGLES.tokens().try_into().unwrap();
+    let row = vec![
+        word.clone(),
+        left,
+        left_bracket,
+        word,
+        less,
+        right_bracket,
+        greater,
+        right,
+    ];
+    let [_, _, cpp, cpp_checked, ..] = exhaustive::each_way(row);
+    assert_eq!(answer(&cpp).refusal(), Some(Refusal::WRONG_CLOSER));
+    assert_eq!(answer(&cpp_checked).refusal(), Some(Refusal::WRONG_CLOSER));
 }

@@ -5,15 +5,19 @@ use std::collections::BTreeMap;
 use std::process::ExitCode;
 
 use harness::answer::Answer;
+use harness::generate::exhaustive::{self, Alphabet};
 use harness::generate::{self, Case};
 use harness::oracle;
+use type_name::type_name_read;
 
 mod corpus;
-mod reader;
 
 const HELP: &str = "\
 side_by_side [--seed S] [--count N] [--style NAME]
     N generated files (default 100000, seed 1), those of the harness's styles in turn.
+side_by_side --exhaustive ALPHABET --longest N [--shortest N]
+    All rows of so many tokens (from 0 unless said) over an alphabet, each under standard 255 of every language with flag 0
+    and 1. Alphabets: mixed (13 tokens), brackets (9), angles (7).
 side_by_side --corpus FILE [--verdicts FILE]
     The type names of a file (language, source and text, parted by tabs), lexed by the original's lexer: standard 255 and
     the latest with flag 1 and 0, the earliest with flag 1. Verdicts: what each name gets with standard 255 and flag 1.
@@ -26,40 +30,64 @@ const FLAG: usize = 6;
 const DIRT: u32 = 0xdead_beef;
 
 fn main() -> ExitCode {
-    let arguments: Vec<String> = std::env::args().skip(1).collect();
-    let value = |name: &str| {
-        let at = arguments.iter().position(|word| word == name)?;
-        arguments.get(at + 1)
-    };
-    if let Some(file) = value("--corpus") {
-        return of_corpus(file, value("--verdicts").map(String::as_str));
-    }
-    let number = |name: &str, or: u64| value(name).map_or(Some(or), |text| text.parse().ok());
-    let (Some(seed), Some(count)) = (number("--seed", 1), number("--count", 100_000)) else {
-        eprint!("{HELP}");
-        return ExitCode::FAILURE;
-    };
-    let style = value("--style").map(String::as_str);
-    let Some(cases) = generate::cases(seed, style) else {
-        eprint!("{HELP}");
-        return ExitCode::FAILURE;
-    };
+    let options = Options(std::env::args().skip(1).collect());
     let mut tally = Tally::default();
-    for case in cases.take(count as usize) {
-        tally.add(&case);
-    }
-    tally.report()
-}
-
-fn of_corpus(file: &str, verdicts: Option<&str>) -> ExitCode {
-    let mut tally = Tally::default();
-    match corpus::compare(file, verdicts, &mut tally) {
+    let done = if let Some(file) = options.value("--corpus") {
+        corpus::compare(file, options.value("--verdicts"), &mut tally)
+    } else if let Some(alphabet) = options.value("--exhaustive") {
+        exhaustive(alphabet, &options, &mut tally)
+    } else {
+        generated(&options, &mut tally)
+    };
+    match done {
         Ok(()) => tally.report(),
         Err(message) => {
-            eprintln!("side_by_side: {message}");
+            eprint!("side_by_side: {message}\n\n{HELP}");
             ExitCode::FAILURE
         }
     }
+}
+
+/// The words behind the program's name.
+struct Options(Vec<String>);
+
+impl Options {
+    fn value(&self, name: &str) -> Option<&str> {
+        let at = self.0.iter().position(|word| word == name)?;
+        self.0.get(at + 1).map(String::as_str)
+    }
+
+    fn number(&self, name: &str, or: Option<usize>) -> Result<usize, String> {
+        match self.value(name) {
+            Some(text) => text.parse().map_err(|_| format!("{name} needs a number")),
+            None => or.ok_or(format!("{name} is missing")),
+        }
+    }
+}
+
+fn generated(options: &Options, tally: &mut Tally) -> Result<(), String> {
+    let seed = options.number("--seed", Some(1))? as u64;
+    let count = options.number("--count", Some(100_000))?;
+    let cases = generate::cases(seed, options.value("--style")).ok_or("no such style")?;
+    for case in cases.take(count) {
+        tally.add(&case);
+    }
+    Ok(())
+}
+
+fn exhaustive(alphabet: &str, options: &Options, tally: &mut Tally) -> Result<(), String> {
+    let alphabet = Alphabet::named(alphabet).ok_or("no such alphabet")?;
+    let shortest = options.number("--shortest", Some(0))?;
+    let longest = options.number("--longest", None)?;
+    let mut rows = 0_u64;
+    for tokens in exhaustive::rows(alphabet.tokens(), shortest..=longest) {
+        rows += 1;
+        for case in exhaustive::each_way(tokens) {
+            tally.add(&case);
+        }
+    }
+    println!("{rows} rows");
+    Ok(())
 }
 
 #[derive(Default)]
@@ -67,7 +95,8 @@ struct Tally {
     files: u64,
     differ: u64,
     checked: u64,
-    answers: BTreeMap<String, u64>,
+    /// By the refusal's number.
+    answers: BTreeMap<Option<u32>, u64>,
 }
 
 impl Tally {
@@ -76,22 +105,18 @@ impl Tally {
         self.files += 1;
         let mut expected = vec![DIRT; case.tree_len];
         let answer = oracle::answer(&case.file, &mut expected);
-        *self.answers.entry(kind_of(answer)).or_default() += 1;
+        *self.answers.entry(answer.refusal()).or_default() += 1;
         let read_whole = matches!(answer.refusal(), None | Some(30) | Some(40));
         self.checked += u64::from(read_whole && case.file.get(FLAG) == Some(&1));
         let mut tree = vec![DIRT; case.tree_len];
-        let read = reader::read(&case.file, &mut tree);
-        if read.numbers != numbers_of(answer)
-            || read.returned != read.numbers[0]
-            || tree != expected
-        {
+        let mut numbers = [DIRT; 4];
+        let returned = type_name_read(&case.file, &mut tree, &mut numbers);
+        if numbers != answer.numbers() || returned != numbers[0] || tree != expected {
             self.differ += 1;
             if self.differ <= 10 {
                 let file: String = case.file.iter().map(|byte| format!("{byte:02x}")).collect();
-                println!(
-                    "differs: {file} room {} original {answer} new {:?}",
-                    case.tree_len, read.numbers
-                );
+                let room = case.tree_len;
+                println!("differs: {file} room {room} original {answer} new {numbers:?}");
             }
         }
         answer
@@ -101,7 +126,10 @@ impl Tally {
         let answers: Vec<String> = self
             .answers
             .iter()
-            .map(|(answer, n)| format!("{answer}: {n}"))
+            .map(|(refusal, n)| match refusal {
+                None => format!("ok: {n}"),
+                Some(number) => format!("no {number}: {n}"),
+            })
             .collect();
         println!("{}", answers.join(", "));
         println!("{} trees checked for structure", self.checked);
@@ -111,24 +139,5 @@ impl Tally {
         } else {
             ExitCode::FAILURE
         }
-    }
-}
-
-fn kind_of(answer: Answer) -> String {
-    match answer.refusal() {
-        None => "ok".to_owned(),
-        Some(number) => format!("no {number}"),
-    }
-}
-
-fn numbers_of(answer: Answer) -> [u32; 4] {
-    let text = answer.to_string();
-    let mut words = text.split(' ');
-    let accepted = words.next() == Some("ok");
-    let rest: Vec<u32> = words.map(|word| word.parse().expect("a number")).collect();
-    match (accepted, rest.as_slice()) {
-        (true, &[nodes, steps]) => [0, nodes, steps, 0],
-        (false, &[number, token, detail, steps]) => [number, token, detail, steps],
-        _ => unreachable!("an answer's line"),
     }
 }

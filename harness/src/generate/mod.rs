@@ -61,7 +61,7 @@ pub const EXHAUSTIVE: &str = "exhaustive";
 pub fn cases(seed: u64, style: Option<&str>) -> Option<Box<dyn Iterator<Item = Case>>> {
     let mut random = Random::new(seed);
     if style == Some(EXHAUSTIVE) {
-        let rows = exhaustive::rows(exhaustive::alphabet(), usize::MAX);
+        let rows = exhaustive::rows(exhaustive::MIXED.tokens(), 0..=usize::MAX);
         return Some(Box::new(rows.map(move |tokens| {
             let language = *random.pick(&LANGUAGES);
             dressed(Draft { language, tokens }, &mut random)

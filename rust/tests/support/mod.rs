@@ -1,0 +1,96 @@
+//! Rows from text, so that tests can be read.
+
+use type_name::{
+    Accepted, CStandard, CppStandard, FortranStandard, Head, HostLanguageProfile, Refusal, Row,
+    TokenKind, parse_type_name, tree_for,
+};
+
+/// An allowance that no row here comes near.
+pub const AMPLE: u32 = 1_000_000;
+
+pub const fn c(standard: CStandard) -> HostLanguageProfile {
+    HostLanguageProfile::C(standard)
+}
+
+pub const fn cpp(standard: CppStandard) -> HostLanguageProfile {
+    HostLanguageProfile::Cpp(standard)
+}
+
+pub const fn fortran(standard: FortranStandard) -> HostLanguageProfile {
+    HostLanguageProfile::Fortran(standard)
+}
+
+/// With the structure check.
+pub fn checked(profile: HostLanguageProfile) -> Head {
+    Head {
+        profile,
+        structure: true,
+        allowance: AMPLE,
+    }
+}
+
+/// Without it.
+pub fn unchecked(profile: HostLanguageProfile) -> Head {
+    Head {
+        structure: false,
+        ..checked(profile)
+    }
+}
+
+/// The longer symbols first.
+const SYMBOLS: [(&str, TokenKind); 16] = [
+    ("::", TokenKind::Scope),
+    (">>", TokenKind::ShiftRight),
+    ("&&", TokenKind::LogicalAnd),
+    ("(", TokenKind::LeftParen),
+    (")", TokenKind::RightParen),
+    ("[", TokenKind::LeftBracket),
+    ("]", TokenKind::RightBracket),
+    ("<", TokenKind::Less),
+    (">", TokenKind::Greater),
+    ("&", TokenKind::Ampersand),
+    ("*", TokenKind::Star),
+    (",", TokenKind::Comma),
+    (".", TokenKind::Dot),
+    ("=", TokenKind::Equal),
+    (":", TokenKind::Colon),
+    ("$", TokenKind::End),
+];
+
+/// The row of a text; `$` gives a token of kind `End`.
+pub fn row(head: Head, text: &str) -> Row {
+    let mut row = Row::new(head);
+    let mut at = 0;
+    while at < text.len() {
+        let rest = &text[at..];
+        if rest.starts_with(' ') {
+            at += 1;
+            continue;
+        }
+        let (kind, length) = token(rest);
+        row.push(kind, &rest[..length], at as u32..(at + length) as u32);
+        at += length;
+    }
+    row
+}
+
+/// The kind and the length of the token that begins a text.
+fn token(text: &str) -> (TokenKind, usize) {
+    let is_symbol = |letter: char| !letter.is_ascii_alphanumeric() && letter != '_';
+    if text.starts_with(is_symbol) {
+        let symbol = SYMBOLS.iter().find(|(symbol, _)| text.starts_with(symbol));
+        let &(symbol, kind) = symbol.expect("a symbol of the list");
+        return (kind, symbol.len());
+    }
+    let kind = if text.starts_with(|letter: char| letter.is_ascii_digit()) {
+        TokenKind::Integer
+    } else {
+        TokenKind::Identifier
+    };
+    (kind, text.find(is_symbol).unwrap_or(text.len()))
+}
+
+pub fn answer(head: Head, text: &str) -> Result<Accepted, Refusal> {
+    let row = row(head, text);
+    parse_type_name(row.bytes(), &mut tree_for(row.bytes()))
+}
