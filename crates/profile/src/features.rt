@@ -36,7 +36,10 @@ fn word_at(words: &[u8], at: usize) -> u8
 fn identifier_is(kinds: &[u8], words: &[u8], at: usize, word: u8) -> bool
     ensures { λ r. ⌜ r ≡ identifier-is (now (kinds .entry)) (now (words .entry)) at word ⌝ }
 {
-    kind_is(kinds, at, IDENTIFIER) & (ignoring_case(word_at(words, at)) == word)
+    if ignoring_case(word_at(words, at)) != word {
+        return false;
+    }
+    kind_is(kinds, at, IDENTIFIER)
 }
 
 pub fn has_kind(kinds: &[u8], kind: u8) -> bool
@@ -72,10 +75,14 @@ pub fn has_identifier_call(kinds: &[u8], words: &[u8], name: u8) -> bool
 {
     let mut at = 0;
     while at < kinds.len() {
-        if identifier_is(kinds, words, at, name) & kind_is(kinds, at + 1, LEFT_PAREN) {
-            return true;
+        if identifier_is(kinds, words, at, name) {
+            if kind_is(kinds, at + 1, LEFT_PAREN) {
+                return true;
+            }
+            at += 1;
+        } else {
+            at += 1;
         }
-        at += 1;
     }
     false
 }

@@ -34,7 +34,7 @@ kind-is-requires c κs = omega arith
 
 returns : tie.Need-returns Inv-loop μ-loop
 unfolding has-identifier-call
-returns c = looking-found _ _ (c .before .before .before .before .loop .inv) (omega arith) (rw (← c .before .before .identifier-is .ensures) rw (← c .before .kind-is .ensures) (c .if1 .taken))
+returns c = looking-found _ _ (c .before .before .before .before .before .loop .inv) (omega arith) (rw (← c .before .before .before .identifier-is .ensures, ← c .before .kind-is .ensures, c .before .before .if1 .taken) (c .if2 .taken))
 
 add-at : tie.Need-add-at Inv-loop μ-loop
 add-at c = omega arith
@@ -43,7 +43,16 @@ loop-less : tie.Need-loop-less Inv-loop μ-loop
 loop-less c = omega arith
 
 loop-again : tie.Need-loop-again Inv-loop μ-loop
-loop-again c = looking-on _ _ (c .before .before .before .before .loop .inv) (omega arith) (rw (← c .before .before .identifier-is .ensures) rw (← c .before .kind-is .ensures) (c .if1 .left))
+loop-again c = looking-on _ _ (c .before .before .before .before .before .loop .inv) (omega arith) (rw (← c .before .before .before .identifier-is .ensures, ← c .before .kind-is .ensures, c .before .before .if1 .taken) (c .if2 .left))
+
+add-at-2 : tie.Need-add-at-2 Inv-loop μ-loop
+add-at-2 c = omega arith
+
+loop-less-2 : tie.Need-loop-less-2 Inv-loop μ-loop
+loop-less-2 c = omega arith
+
+loop-again-2 : tie.Need-loop-again-2 Inv-loop μ-loop
+loop-again-2 c = looking-on _ _ (c .before .before .before .loop .inv) (omega arith) (rw (← c .before .identifier-is .ensures, c .if1 .left))
 
 returns-2 : tie.Need-returns-2 Inv-loop μ-loop
 unfolding has-identifier-call
@@ -63,4 +72,7 @@ has-identifier-call-spec =
     add-at
     loop-less
     loop-again
+    add-at-2
+    loop-less-2
+    loop-again-2
     returns-2)

@@ -1,8 +1,9 @@
 -- `identifier_is` meets its contract. Assumes nothing.
-use mathlib.Core.Path.{refl}
 use native.Mathlib.Omega.{arith}
 use borrow.Author.Needs.{needs}
+use borrow.Author.Tests.{eq-eqb, ne-eqb}
 use Rattle.profile.specs.Profile.{identifier-is}
+use Rattle.profile.specs.Laws.SomeToken.{and-false, and-true}
 use borrow.Author.Needs.{needs}
 use Rattle.profile.proofs.features.identifier_is.Statement.{statement}
 use Rattle.profile.proofs.features.identifier_is.Tie as tie
@@ -12,9 +13,6 @@ use Rattle.profile.proofs.features.kind_is.Reads as kind-is-reads
 use Rattle.profile.proofs.features.word_at.Reads as word-at-reads
 use Rattle.rows.proofs.word_numbers.ignoring_case.Reads as ignoring-case-reads
 
-kind-is-requires : tie.Need-kind-is-requires
-kind-is-requires c κs = search needs
-
 word-at-requires : tie.Need-word-at-requires
 word-at-requires c κs = search needs
 
@@ -23,8 +21,15 @@ ignoring-case-requires c κs = search needs
 
 returns : tie.Need-returns
 unfolding identifier-is
-returns c = rw (c .before .before .kind-is .ensures, c .ignoring-case .ensures, c .before .word-at .ensures) refl
+returns c = rw (← c .before .before .word-at .ensures, ← c .before .ignoring-case .ensures, ne-eqb _ _ (c .if1 .taken), and-false)
+
+kind-is-requires : tie.Need-kind-is-requires
+kind-is-requires c κs = search needs
+
+returns-2 : tie.Need-returns-2
+unfolding identifier-is
+returns-2 c = rw (← c .before .before .before .word-at .ensures, ← c .before .before .ignoring-case .ensures, eq-eqb _ _ (c .before .if1 .left), and-true) (c .kind-is .ensures)
 
 pub identifier-is-spec : {M : Type 1} → statement M
 identifier-is-spec =
-    tie.close (tie.spec kind-is-requires word-at-requires ignoring-case-requires returns)
+    tie.close (tie.spec word-at-requires ignoring-case-requires returns kind-is-requires returns-2)
