@@ -12,6 +12,12 @@ pub fn wide(byte: u8) -> usize
     byte as usize
 }
 
+pub fn wide_two(number: u16) -> usize
+    ensures { λ r. ⌜ r ≡ number ⌝ }
+{
+    number as usize
+}
+
 // The number of two bytes at a byte offset.
 pub fn two_bytes(file: &[u8], at: usize) -> usize
     requires { ⌜ at + 2 ≤ length (now file) ⌝ }

@@ -4,6 +4,7 @@ use crate::answer::TypeNameError;
 use crate::token::TOKEN_LENGTH;
 use crate::token::TokenRecord;
 use crate::token::token_at;
+use crate::words::FIRSTS;
 use crate::words::NUMBERS;
 use crate::words::SHORTER;
 use crate::words::STARTS;
@@ -34,6 +35,7 @@ pub fn read_row(
 {
     let texts = TEXTS;
     let numbers = NUMBERS;
+    let firsts = FIRSTS;
     let starts = STARTS;
     let shorter = SHORTER;
     let mut at = begin;
@@ -49,7 +51,14 @@ pub fn read_row(
         let word = at + TOKEN_LENGTH;
         let next = at + length;
         kinds[count] = kind;
-        words[count] = number_of_word(&file[word..next], &texts, &numbers, &starts, &shorter);
+        words[count] = number_of_word(
+            &file[word..next],
+            &texts,
+            &numbers,
+            &firsts,
+            &starts,
+            &shorter,
+        );
         places[count] = at as u32;
         count += 1;
         at = next;

@@ -1,5 +1,7 @@
 // The number of a word: a word is compared with the few known words of its length.
 
+use crate::bytes::wide;
+use crate::bytes::wide_two;
 use crate::word_numbers::ATOMIC;
 use crate::word_numbers::BIT_INT;
 use crate::word_numbers::BOOL;
@@ -112,8 +114,11 @@ pub const NUMBERS: [u8; 42] = [
     TRANSACTION_SAFE,
 ];
 
+// Their first bytes in lower case.
+pub const FIRSTS: [u8; 42] = *b"ivbclet_fscucdstswc__cccu_vrnd_tp_______tt";
+
 // Where each begins in TEXTS.
-pub const STARTS: [usize; 42] = [
+pub const STARTS: [u16; 42] = [
     0,
     3,
     7,
@@ -159,7 +164,7 @@ pub const STARTS: [usize; 42] = [
 ];
 
 // For each length, how many known words are shorter.
-pub const SHORTER: [usize; 18] = [
+pub const SHORTER: [u8; 18] = [
     0,
     0,
     0,
@@ -225,20 +230,29 @@ pub fn number_of_word(
     word: &[u8],
     known: &[u8; 307],
     numbers: &[u8; 42],
-    starts: &[usize; 42],
-    shorter: &[usize; 18],
+    firsts: &[u8; 42],
+    starts: &[u16; 42],
+    shorter: &[u8; 18],
 ) -> u8
-    requires { ⌜ Tables (now known) (now numbers) (now starts) (now shorter) ⌝ }
+    requires { ⌜ Tables (now known) (now numbers) (now firsts) (now starts) (now shorter) ⌝ }
     ensures { λ r. ⌜ r ≡ word-number (now (word .entry)) ⌝ }
 {
     let size = word.len();
+    if size == 0 {
+        return NO_WORD;
+    }
     if LONGEST_KNOWN < size {
         return NO_WORD;
     }
-    let end = shorter[size + 1];
-    let mut row = shorter[size];
+    let first = lower_case(word[0]);
+    let end = wide(shorter[size + 1]);
+    let mut row = wide(shorter[size]);
     while row < end {
-        let begin = starts[row];
+        if firsts[row] != first {
+            row += 1;
+            continue;
+        }
+        let begin = wide_two(starts[row]);
         let comparison = compare(word, known, begin);
         match comparison {
             Comparison::Exact => return numbers[row],

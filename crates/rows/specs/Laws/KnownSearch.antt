@@ -12,8 +12,8 @@ use lib.ListN.{length, getD, take, drop, length-map, List·getD-map}
 use lib.Dec.{T, leb, ltb, eqb, leb→le}
 use Rattle.rows.specs.Notation.{if_then_else_}
 use Rattle.rows.specs.Words.{Known, known, bytes, same-through, same-exactly, same-ignoring-case, lower, number-among, word-number, no-word, other-case}
-use Rattle.rows.specs.Laws.KnownWords.{compared, start, of-length, groups, ordered, spellings, texts, texts-long}
-use Rattle.rows.specs.Laws.KnownTable.{piece, start-suc, start-le, shorter, shorter-at, starts, starts-at, numbers, no-entry, ordered-long, rows-of, groups-long, group-rows, rows-cons, rows-end, last-row}
+use Rattle.rows.specs.Laws.KnownWords.{compared, byte-differs, nothing-yet, start, of-length, groups, ordered, spellings, texts, texts-long}
+use Rattle.rows.specs.Laws.KnownTable.{piece, start-suc, start-le, shorter, shorter-at, starts, starts-at, numbers, firsts, no-entry, ordered-long, rows-of, groups-long, group-rows, rows-cons, rows-end, last-row}
 use Rattle.rows.specs.declared.words.Comparison.{Comparison}
 use Rattle.rows.specs.declared.words.Comparison.the-variants.{Exact, OtherCase, Different}
 
@@ -110,6 +110,14 @@ none-longer n p (k ∷ ks) t =
     let short : length (bytes (k .text)) ≤ 16 = leb→le (length (bytes (k .text))) 16 (and-yes (leb (k .number) 42) (leb (length (bytes (k .text))) 16) (u .0) .1) in
     rw (ne-eqb (length (bytes (k .text))) n (omega (arith, short))) (none-longer n p ks (u .1))
 
+none-empty : of-length 0 known ≡ []
+unfolding of-length known bytes
+none-empty = refl
+
+pub empty : (w : List ℕ) → length w ≡ 0 → no-word ≡ word-number w
+unfolding word-number number-among
+empty w p = sym (only-of-length known w ∙ rw (p, none-empty) refl)
+
 pub too-long : (w : List ℕ) → 16 < length w → no-word ≡ word-number w
 unfolding word-number number-among
 too-long w p = sym (only-of-length known w ∙ rw (none-longer (length w) p known all-fit) refl)
@@ -187,6 +195,16 @@ module _ (w : List ℕ) (r b : ℕ) (s : Searching w r b) (more : r < b) where
   pub not-here : Different ≡ compared w (take (length w) (drop (getD starts r 0) texts)) → Searching w (r + 1) b
   unfolding picked
   not-here e = record { inside = omega arith; last = s .last; rest = here Different e; entries = entries-here .1 }
+
+  -- A word whose first byte is another, case ignored, is another word.
+  pub first-differs : 0 < length w → (l : ℕ) → l ≡ lower (getD w 0 0) → (getD firsts r 0 ≡ l → ⊥) → Searching w (r + 1) b
+  unfolding firsts
+  first-differs p l e d =
+      let first : getD firsts r 0 ≡ lower (getD (bytes (entry .text)) 0 0) =
+      List·getD-map (λ (v : List ℕ). lower (getD v 0 0)) spellings r [] ∙ ap (λ (v : List ℕ). lower (getD v 0 0)) (spelling-at r) in
+      not-here
+      (byte-differs w (bytes (entry .text)) (entries-here .0 .long) true 0 (nothing-yet w (bytes (entry .text))) p (λ q. d (first ∙ sym q ∙ sym e))
+      ∙ ap (compared w) (sym text-here))
 
 pub not-found : (w : List ℕ) (r b : ℕ) → Searching w r b → b ≤ r → no-word ≡ word-number w
 unfolding number-among

@@ -77,10 +77,16 @@ unfoldable pub numbers : List ℕ
 unfolding ordered
 numbers = map (λ (k : Known). k .number) ordered
 
+-- Their first bytes in lower case.
+unfoldable pub firsts : List ℕ
+unfolding spellings lower
+firsts = map (λ (w : List ℕ). lower (getD w 0 0)) spellings
+
 -- What is lent to the search.
-pub record Tables (known′ numbers′ starts′ shorter′ : List ℕ) : Type 0 where
+pub record Tables (known′ numbers′ firsts′ starts′ shorter′ : List ℕ) : Type 0 where
   pub known-are : known′ ≡ texts
   pub numbers-are : numbers′ ≡ numbers
+  pub firsts-are : firsts′ ≡ firsts
   pub starts-are : starts′ ≡ starts
   pub shorter-are : shorter′ ≡ shorter
 

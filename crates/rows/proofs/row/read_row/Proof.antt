@@ -7,7 +7,7 @@ use lib.ListN.{length, length-set}
 use Rattle.rows.specs.Format.{format}
 use Rattle.rows.specs.Laws.Tokens.{formed-fits}
 use Rattle.rows.specs.Laws.KnownWords.{texts}
-use Rattle.rows.specs.Laws.KnownTable.{numbers, starts, shorter}
+use Rattle.rows.specs.Laws.KnownTable.{numbers, firsts, starts, shorter}
 use Rattle.rows.specs.Laws.RowLoop.{RowLoop, loop-begins, loop-full, loop-malformed, loop-token, loop-ends}
 use Rattle.rows.proofs.row.read_row.Statement.{statement}
 use Rattle.rows.proofs.row.read_row.Tie as tie
@@ -17,10 +17,10 @@ use Rattle.rows.proofs.token.token_at.Reads as token-at-reads
 use Rattle.rows.proofs.words.number_of_word.Reads as number-of-word-reads
 
 abbrev Inv-loop : tie.InvT-loop
-Inv-loop file begin most kinds₀ words₀ places₀ texts numbers starts shorter at₀ count₀ kinds words places at count = RowLoop file begin most kinds₀ words₀ places₀ kinds words places at count
+Inv-loop file begin most kinds₀ words₀ places₀ texts numbers firsts starts shorter at₀ count₀ kinds words places at count = RowLoop file begin most kinds₀ words₀ places₀ kinds words places at count
 
 abbrev μ-loop : tie.MeasureT-loop
-μ-loop file begin most kinds₀ words₀ places₀ texts numbers starts shorter at₀ count₀ kinds words places at count = length file - at
+μ-loop file begin most kinds₀ words₀ places₀ texts numbers firsts starts shorter at₀ count₀ kinds words places at count = length file - at
 
 loop-holds : tie.Need-loop-holds Inv-loop μ-loop
 loop-holds c = loop-begins _ _ _ _ _ _
@@ -46,8 +46,8 @@ enum-known-found c = search needs
 enum-told : tie.Need-enum-told Inv-loop μ-loop
 enum-told c = search needs
 
-cast-t25 : tie.Need-cast-t25 Inv-loop μ-loop
-cast-t25 c = omega arith
+cast-t26 : tie.Need-cast-t26 Inv-loop μ-loop
+cast-t26 c = omega arith
 
 same-length-4 : tie.Need-same-length-4 Inv-loop μ-loop
 same-length-4 c = c .before .before .before .before .before .loop .inv .kinds-so-far .long
@@ -80,29 +80,29 @@ part-number-of-word-end : tie.Need-part-number-of-word-end Inv-loop μ-loop
 part-number-of-word-end c = let fit = formed-fits format _ _ _ _ (sym (c .before .before .before .token-at .ensures) ∙ c .before .found .given .1) in omega arith
 
 number-of-word-requires : tie.Need-number-of-word-requires Inv-loop μ-loop
-unfolding texts numbers starts shorter
-number-of-word-requires c κs = record { known-are = refl; numbers-are = refl; starts-are = refl; shorter-are = refl }
+unfolding texts numbers firsts starts shorter
+number-of-word-requires c κs = record { known-are = refl; numbers-are = refl; firsts-are = refl; starts-are = refl; shorter-are = refl }
 
 slice-write-words : tie.Need-slice-write-words Inv-loop μ-loop
-slice-write-words c = omega (arith, c .before .before .before .before .before .before .before .before .before .before .before .before .loop .inv .words-so-far .long, c .before .before .before .before .before .before .before .before .before .before .before .before .before .before .before .before .before .pre .for-words, c .before .before .before .before .before .before .before .before .before .before .before .before .loop .inv .few, c .before .before .before .before .before .before .before .before .before .before .if1 .left)
+slice-write-words c = omega (arith, c .before .before .before .before .before .before .before .before .before .before .before .before .before .loop .inv .words-so-far .long, c .before .before .before .before .before .before .before .before .before .before .before .before .before .before .before .before .before .before .pre .for-words, c .before .before .before .before .before .before .before .before .before .before .before .before .before .loop .inv .few, c .before .before .before .before .before .before .before .before .before .before .before .if1 .left)
 
 cast-places : tie.Need-cast-places Inv-loop μ-loop
-cast-places c = omega (arith, c .before .before .before .before .before .before .before .before .before .before .before .before .before .before .before .before .before .pre .offsets-fit)
+cast-places c = omega (arith, c .before .before .before .before .before .before .before .before .before .before .before .before .before .before .before .before .before .before .pre .offsets-fit)
 
 mul-places : tie.Need-mul-places Inv-loop μ-loop
 mul-places c = omega arith
 
 slice-write-places : tie.Need-slice-write-places Inv-loop μ-loop
-slice-write-places c = omega (arith, c .before .before .before .before .before .before .before .before .before .before .before .before .loop .inv .places-so-far .long, c .before .before .before .before .before .before .before .before .before .before .before .before .before .before .before .before .before .pre .for-places, c .before .before .before .before .before .before .before .before .before .before .before .before .loop .inv .few, c .before .before .before .before .before .before .before .before .before .before .if1 .left)
+slice-write-places c = omega (arith, c .before .before .before .before .before .before .before .before .before .before .before .before .before .loop .inv .places-so-far .long, c .before .before .before .before .before .before .before .before .before .before .before .before .before .before .before .before .before .before .pre .for-places, c .before .before .before .before .before .before .before .before .before .before .before .before .before .loop .inv .few, c .before .before .before .before .before .before .before .before .before .before .before .if1 .left)
 
 add-count : tie.Need-add-count Inv-loop μ-loop
-add-count c = omega (arith, c .before .before .before .before .before .before .before .before .before .before .before .before .loop .inv .few, c .before .before .before .before .before .before .before .before .before .before .if1 .left)
+add-count c = omega (arith, c .before .before .before .before .before .before .before .before .before .before .before .before .before .loop .inv .few, c .before .before .before .before .before .before .before .before .before .before .before .if1 .left)
 
 loop-less : tie.Need-loop-less Inv-loop μ-loop
-loop-less c = let fit = formed-fits format _ _ _ _ (sym (c .before .before .before .before .before .before .before .before .before .token-at .ensures) ∙ c .before .before .before .before .before .before .before .found .given .1) in omega arith
+loop-less c = let fit = formed-fits format _ _ _ _ (sym (c .before .before .before .before .before .before .before .before .before .before .token-at .ensures) ∙ c .before .before .before .before .before .before .before .before .found .given .1) in omega arith
 
 loop-again : tie.Need-loop-again Inv-loop μ-loop
-loop-again c = loop-token (c .before .before .before .before .before .before .before .before .before .before .before .before .loop .inv) (c .before .before .before .before .before .before .before .before .before .before .before .before .before .before .before .before .before .pre) (omega arith) (c .before .before .before .before .before .before .before .before .before .before .if1 .left) _ _ (sym (c .before .before .before .before .before .before .before .before .before .token-at .ensures) ∙ c .before .before .before .before .before .before .before .found .given .1) _ (c .number-of-word .ensures)
+loop-again c = loop-token (c .before .before .before .before .before .before .before .before .before .before .before .before .before .loop .inv) (c .before .before .before .before .before .before .before .before .before .before .before .before .before .before .before .before .before .before .pre) (omega arith) (c .before .before .before .before .before .before .before .before .before .before .before .if1 .left) _ _ (sym (c .before .before .before .before .before .before .before .before .before .before .token-at .ensures) ∙ c .before .before .before .before .before .before .before .before .found .given .1) _ (c .number-of-word .ensures)
 
 same-length-7 : tie.Need-same-length-7 Inv-loop μ-loop
 same-length-7 c = c .before .loop .inv .kinds-so-far .long
@@ -130,7 +130,7 @@ read-row-spec =
     token-at-requires
     enum-known-found
     enum-told
-    cast-t25
+    cast-t26
     same-length-4
     same-length-5
     same-length-6
