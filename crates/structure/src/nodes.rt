@@ -168,7 +168,11 @@ pub fn looks_like_abstract_declarator(tree: &[u32], kinds: &[u8], from: usize, t
     requires { ⌜ Formed (now tree) (now kinds) from to ⌝ }
     ensures { λ r. ⌜ Of (now (tree .entry)) (now (kinds .entry)) from to (λ x. r ≡ looks-like-abstract-declarator (now (kinds .entry)) x) ⌝ }
 {
-    let scope = any(tree, kinds, SCOPE, from, to);
-    let star = any(tree, kinds, STAR, from, to);
-    is_declarator_start(shape_at(tree, kinds, from, to)) | (scope & star)
+    if is_declarator_start(shape_at(tree, kinds, from, to)) {
+        return true;
+    }
+    if any(tree, kinds, SCOPE, from, to) {
+        return any(tree, kinds, STAR, from, to);
+    }
+    false
 }
