@@ -1,18 +1,18 @@
 -- What the contracts of the reader's code say. Each function is told in the terms of the reading's definition under the steps left (`limited`).
 -- Left free: the numbers of the lent buffer behind the nodes that were read, and the whole buffer after a refusal, a failed try or refusal 25.
 -- Assumes nothing.
-use Prim.Native.Nat.{ℕ, suc, _+_, _*_, _≤_, _<_}
+use Prim.Native.Nat.{ℕ, suc, _+_, _-_, _*_, _≤_, _<_}
 use mathlib.Core.Path.{_≡_}
 use mathlib.Core.Logic.{_⊎_, _≢_}
 use mathlib.Core.Bool.{Bool, true, false}
-use mathlib.Core.List.{List}
-use lib.ListN.{length, take}
+use mathlib.Core.List.{List, _∷_}
+use lib.ListN.{length, take, drop}
 use lib.Dec.{leb, eqb}
 use Rattle.rows.specs.Kinds.{Identifier, ShiftRight}
 use Rattle.rows.specs.Format.{most-tokens}
 use Rattle.rows.specs.declared.answer.TypeNameError.{TypeNameError}
 use Rattle.rows.specs.declared.answer.TypeNameError.the-variants.{UnexpectedTokenAfterTypeName}
-use Rattle.reader.specs.Nodes.{NodeKind, Nodes, none, node, count, node-width, numbers-per-token, records}
+use Rattle.reader.specs.Nodes.{NodeKind, T-node, number, Nodes, none, node, count, node-width, numbers-per-token, records}
 use Rattle.reader.specs.Reading.{Level, Fault, refusal, Got, got, bad, starts, kindAt, MAX-NESTING-DEPTH, down, go, read}
 use Rattle.reader.specs.Laws.Allowance.{Limited, done, denied, spent, steps, limited, behind}
 use Rattle.reader.specs.declared.parser.TypeSyntaxParser.{TypeSyntaxParser}
@@ -113,6 +113,16 @@ module _ (cpp : Bool) (row : List ℕ) where
 -- One token further, with so many steps left.
 abbrev pub past : TypeSyntaxParser → (left : ℕ) → TypeSyntaxParser
 past p left = record { cursor = p .cursor + 1; «pending_greater» = p .«pending_greater»; left = left }
+
+-- What `parse_token` says, of the buffer before and after: one step is taken and the token's record written, or no step is left.
+abbrev pub TokenSays : TypeSyntaxParser → CodeReading.Reading → (before after : List ℕ) → Type 0
+TokenSays p (Done now n) before after =
+    (p .left ≢ 0) × (now ≡ past p (p .left - 1)) × (n ≡ 1) × (after ≡ number T-node ∷ p .cursor ∷ 1 ∷ drop node-width before)
+TokenSays p (Stopped s) before after = (p .left ≡ 0) × (s ≡ Stop.Spent)
+
+-- `parse_token`.
+pub record TokenAnswers (p : TypeSyntaxParser) (r : CodeReading.Reading) (before after : List ℕ) : Type 0 where
+  pub says : TokenSays p r before after
 
 -- What comes of a list where this comes of its nodes.
 abbrev pub listing-of : CodeReading.Reading → Listing

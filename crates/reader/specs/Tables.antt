@@ -2,7 +2,7 @@
 -- Assumes nothing.
 use Prim.Native.Nat.{ℕ, suc}
 use mathlib.Core.Path.{_≡_}
-use mathlib.Core.Bool.{Bool}
+use mathlib.Core.Bool.{Bool, true}
 use lib.Dec.{eqb}
 use Rattle.rows.specs.Notation.{if_then_else_}
 use Rattle.rows.specs.Kinds.{Identifier, NoToken}
@@ -42,6 +42,10 @@ unfoldable pub started : (k : ℕ) → Start → Next
 started k (Start.Group d) = group (node-of d) (level-of (Opened d))
 started k Start.Angle = angle
 started k Start.Token = token (eqb k Identifier)
+
+-- Where r is true, a token of kind k is a node by itself.
+pub record Plain (cpp word : Bool) (k : ℕ) (r : Bool) : Type 0 where
+  pub plain : r ≡ true → started k Start.Token ≡ starts cpp word k
 
 -- What is to be done at a token of the row or of a group.
 unfoldable pub planned : (cpp word : Bool) (k : ℕ) → GroupStep → Next

@@ -13,6 +13,7 @@ use crate::tables::argument_ends;
 use crate::tables::group_kind;
 use crate::tables::group_step;
 use crate::tables::is_angle_close;
+use crate::tables::is_plain;
 use crate::tables::kind_at;
 use crate::tables::node_start;
 use rows::answer::Open;
@@ -31,7 +32,7 @@ ghost use Rattle.reader.specs.Nodes.{node-width, numbers-per-token};
 ghost use Rattle.reader.specs.Reading.{list, reading};
 ghost use Rattle.reader.specs.Tables.{level-of};
 ghost use Rattle.reader.specs.declared.parser.Reading.the-variants.{Done};
-ghost use Rattle.reader.specs.ReaderSays.{GroupAnswers, ListAnswers, NodeAnswers, Parses, Ready, closed-at, closed-half, level-due, listing-of, past};
+ghost use Rattle.reader.specs.ReaderSays.{GroupAnswers, ListAnswers, NodeAnswers, Parses, Ready, TokenAnswers, closed-at, closed-half, level-due, listing-of, past};
 
 // Where a reading stands: its token, whether half a `>>` is left, and the steps left of the allowance.
 pub struct TypeSyntaxParser {
@@ -115,6 +116,18 @@ fn put_above(
     Reading::Done(next, below + 1)
 }
 
+// A token that is a node by itself.
+fn parse_token(tree: &mut [u32], parser: TypeSyntaxParser) -> Reading
+    requires { ⌜ (node-width ≤ length (now tree)) × (parser .cursor < 65536) ⌝ }
+    ensures { λ r. ⌜ TokenAnswers parser r (now (tree .entry)) (now (tree .exit)) ⌝ }
+{
+    if parser.left == 0 {
+        return Reading::Stopped(Stop::Spent);
+    }
+    let next = parser.past(parser.left - 1);
+    put_above(tree, TOKEN_NODE, parser.cursor, next, 0)
+}
+
 // The nodes of the row, or of the group that is open, from the cursor on.
 fn parse_group(
     kinds: &[u8],
@@ -158,7 +171,27 @@ fn parse_group(
 }
 
 // The node at the cursor. `word`: its left neighbour node is an identifier token.
+// It is short, so that the compiler puts it into the loops and a token by itself needs no call.
 fn parse_node(
+    kinds: &[u8],
+    cpp: bool,
+    tree: &mut [u32],
+    parser: TypeSyntaxParser,
+    word: bool,
+    lists: usize,
+    nesting: usize,
+) -> Reading
+    requires { ⌜ Ready (now kinds) (parser .cursor) lists nesting 64 0 (now tree) × (parser .cursor < length (now kinds)) ⌝ }
+    ensures { λ r. ⌜ NodeAnswers cpp (now (kinds .entry)) lists nesting word parser r (now (tree .exit)) ⌝ }
+{
+    if is_plain(cpp, word, kind_at(kinds, parser.cursor)) {
+        return parse_token(tree, parser);
+    }
+    parse_inner(kinds, cpp, tree, parser, word, lists, nesting)
+}
+
+// The same, of any node: a group and a list call the readers of their nodes.
+fn parse_inner(
     kinds: &[u8],
     cpp: bool,
     tree: &mut [u32],
@@ -208,7 +241,7 @@ fn parse_node(
                 Listing::Spent => Reading::Stopped(Stop::Spent),
             }
         }
-        Start::Token => put_above(tree, TOKEN_NODE, at, begun, 0),
+        Start::Token => parse_token(tree, parser),
     }
 }
 

@@ -21,7 +21,7 @@ ghost use lib.Dec.{eqb};
 ghost use Rattle.rows.specs.Kinds.{Comma};
 ghost use Rattle.reader.specs.Nodes.{number};
 ghost use Rattle.reader.specs.Reading.{closes, kindAt, starts, top};
-ghost use Rattle.reader.specs.Tables.{Plans, PlansGroup, level-of, node-of, started};
+ghost use Rattle.reader.specs.Tables.{Plain, Plans, PlansGroup, level-of, node-of, started};
 
 // How a node begins.
 pub enum Start {
@@ -147,4 +147,15 @@ pub fn node_start(cpp: bool, word: bool, kind: u8) -> Start
         }
     }
     Start::Token
+}
+
+// A token of this kind is a node by itself.
+pub fn is_plain(cpp: bool, word: bool, kind: u8) -> bool
+    ensures { λ r. ⌜ Plain cpp word kind r ⌝ }
+{
+    let start = node_start(cpp, word, kind);
+    if let Start::Token = start {
+        return true;
+    }
+    false
 }

@@ -213,10 +213,14 @@ fn compare(word: &[u8], known: &[u8; 307], begin: usize) -> Comparison
     while i < word.len() {
         let byte = word[i];
         let other = known[begin + i];
+        if byte == other {
+            i += 1;
+            continue;
+        }
         if lower_case(byte) != lower_case(other) {
             return Comparison::Different;
         }
-        exact = exact & (byte == other);
+        exact = false;
         i += 1;
     }
     if exact {

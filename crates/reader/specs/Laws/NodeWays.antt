@@ -16,7 +16,7 @@ use Rattle.rows.specs.declared.answer.Open.the-variants.{Opened}
 use Rattle.reader.specs.Nodes.{NodeKind, T-node, L-node, Nodes, none, number, count, node-width}
 use Rattle.reader.specs.Reading.{Level, list, Fault, Next, token, starts, kindAt, MAX-NESTING-DEPTH, down, go, read}
 use Rattle.reader.specs.Tables.{level-of, node-of, started}
-use Rattle.reader.specs.ReaderSays.{Told, Denied, GroupAnswers, Found, NodeAnswers, ListSays, ListAnswers, level-due, node-due, past}
+use Rattle.reader.specs.ReaderSays.{Told, Denied, GroupAnswers, Found, NodeSays, NodeAnswers, TokenSays, TokenAnswers, ListSays, ListAnswers, level-due, node-due, past}
 use Rattle.reader.specs.Laws.Allowance.{Limited, done, denied, spent, limited, behind, on-done, Costs, limited-token, limited-group, limited-angle, none-left}
 use Rattle.reader.specs.Laws.Buffer.{node-written, token-written}
 use Rattle.reader.specs.Laws.GroupWays.{node-stops-so, group-stopped}
@@ -26,7 +26,7 @@ use Rattle.reader.specs.declared.parser.TypeSyntaxParser.{TypeSyntaxPars
 use Rattle.reader.specs.declared.parser.Stop.{Stop}
 use Rattle.reader.specs.declared.parser.Stop.the-variants.{Refused, Spent}
 use Rattle.reader.specs.declared.parser.Reading as CodeReading
-use Rattle.reader.specs.declared.parser.Reading.the-variants.{Stopped}
+use Rattle.reader.specs.declared.parser.Reading.the-variants.{Done, Stopped}
 use Rattle.reader.specs.declared.parser.Listing.{Listing}
 use Rattle.reader.specs.declared.parser.Listing.the-variants as Listing
 
@@ -63,6 +63,13 @@ started-so cpp word {k} {k′} {s} {s′} ke e h =
 pub past-cursor : {b : TypeSyntaxParser} (p : TypeSyntaxParser) (left : ℕ) → b ≡ past p left → b .cursor ≡ p .cursor + 1
 past-cursor p left e = ap (λ (x : TypeSyntaxParser). x .cursor) e
 
+-- What `parse_token` read.
+pub token-read-so : {p b : TypeSyntaxParser} {r : CodeReading.Reading} {before after : List ℕ} → r ≡ Done b 1 → p .left ≢ 0 → b ≡ past p (p .left - 1)
+    → after ≡ 0 ∷ p .cursor ∷ 1 ∷ drop node-width before → TokenAnswers p r before after
+unfolding number
+token-read-so {p} {before = before} {after} e some entered w =
+    record { says = subst (λ (x : CodeReading.Reading). TokenSays p x before after) (sym e) (some, entered, refl, w) }
+
 module _ (cpp : Bool) (row : List ℕ) (lists nesting : ℕ) (word : Bool) (p : TypeSyntaxParser) where
   abbrev at : ℕ
   at = p .cursor
@@ -90,7 +97,7 @@ module _ (cpp : Bool) (row : List ℕ) (lists nesting : ℕ) (word : Bool) (p : 
         ap (λ (x : Next). gone l (p .left) x) (sym e) ∙ ap (λ (x : ℕ). gone l x nx) s
 
     -- A token by itself.
-    pub node-token : {r buf : List ℕ} → started kind Start.Token ≡ starts cpp word kind → at < length row
+    node-token : {r buf : List ℕ} → started kind Start.Token ≡ starts cpp word kind → at < length row
         → buf ≡ 0 ∷ at ∷ 1 ∷ r → Found cpp row lists nesting word p b 1 buf
     unfolding started count number
     node-token {buf = buf} e here w =
@@ -212,3 +219,15 @@ module _ (cpp : Bool) (row : List ℕ) (lists nesting : ℕ) (word : Bool) (p : 
       pub node-list-spends : level-due cpp row list (lists + 1) (nesting + 1) b ≡ spent → (l : Level) → node-due cpp row lists nesting word p l ≡ spent
       unfolding on-done
       node-list-spends d l = angle-turn l ∙ ap (tried l) d
+
+  -- A token by itself, as `parse_token` says it.
+  node-token-says : (before buf : List ℕ) → started kind Start.Token ≡ starts cpp word kind → at < length row
+      → (r : CodeReading.Reading) → TokenSays p r before buf → NodeSays cpp row lists nesting word p r buf
+  unfolding number
+  node-token-says before buf e here (Done now n) h =
+      subst (λ (x : ℕ). Found cpp row lists nesting word p now x buf) (sym (h .2)) (node-token (h .0) (h .1) e here (h .3))
+  node-token-says before buf e here (Stopped s) h = λ l. subst (λ (x : Stop). Denied (node-due cpp row lists nesting word p l) x) (sym (h .1)) (node-spends (h .0) l)
+
+  pub node-by-token : {r : CodeReading.Reading} {before buf : List ℕ} → started kind Start.Token ≡ starts cpp word kind → at < length row
+      → TokenAnswers p r before buf → NodeAnswers cpp row lists nesting word p r buf
+  node-by-token {r} {before} {buf} e here h = record { says = node-token-says before buf e here r (h .says) }

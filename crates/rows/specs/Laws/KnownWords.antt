@@ -83,6 +83,10 @@ and-false : (b : Bool) → (b && false) ≡ false
 and-false true = refl
 and-false false = refl
 
+and-true : (b : Bool) → (b && true) ≡ b
+and-true true = refl
+and-true false = refl
+
 and-assoc : (a b c : Bool) → (a && (b && c)) ≡ (a && b && c)
 and-assoc true b c = refl
 and-assoc false b c = refl
@@ -119,10 +123,6 @@ module _ (w v : List ℕ) (same-length : length v ≡ length w) where
       let all : same-ignoring-case w v ≡ true = s .ignoring ∙ rw (ended, ended′) refl in
       let which : same-exactly w v ≡ exact = s .exactly ∙ rw (ended, ended′) (and-true exact) in
       rw (which, all) refl
-    where
-      and-true : (b : Bool) → (b && true) ≡ b
-      and-true true = refl
-      and-true false = refl
 
 -- ---- the text that begins at a place of `texts`
 
@@ -145,11 +145,18 @@ module _ (w : List ℕ) (begin : ℕ) (room : begin + length w ≤ 307) (exact :
   text-differs p l m e e′ d =
       byte-differs w text (text-length begin (length w) room) exact i s p (λ q. d (e ∙ q ∙ ap lower (text-byte begin (length w) i p) ∙ sym e′))
 
-  pub text-same : i < length w → (l m : ℕ) → l ≡ lower (getD w i 0) → m ≡ lower (getD texts (begin + i) 0) → l ≡ m
+  text-same : i < length w → (l m : ℕ) → l ≡ lower (getD w i 0) → m ≡ lower (getD texts (begin + i) 0) → l ≡ m
       → SoFar w text (exact && eqb (getD w i 0) (getD texts (begin + i) 0)) (i + 1)
   text-same p l m e e′ q =
       rw (text-byte begin (length w) i p) at
       (byte-same w text (text-length begin (length w) room) exact i s p (sym e ∙ q ∙ e′ ∙ sym (ap lower (text-byte begin (length w) i p))))
+
+  pub text-equal : i < length w → getD w i 0 ≡ getD texts (begin + i) 0 → SoFar w text exact (i + 1)
+  text-equal p e = rw (eq-eqb (getD w i 0) (getD texts (begin + i) 0) e, and-true exact) at (text-same p _ _ refl refl (ap lower e))
+
+  pub text-in-other-case : i < length w → (l m : ℕ) → l ≡ lower (getD w i 0) → m ≡ lower (getD texts (begin + i) 0) → (getD w i 0 ≡ getD texts (begin + i) 0 → ⊥) → l ≡ m
+      → SoFar w text false (i + 1)
+  text-in-other-case p l m e e′ d q = rw (ne-eqb (getD w i 0) (getD texts (begin + i) 0) d, and-false exact) at (text-same p l m e e′ q)
 
   pub text-ended : length w ≤ i → (b : Bool) → exact ≡ b → (if b then Exact else OtherCase) ≡ compared w text
   text-ended p b e = rw (← e) (all-compared w text (text-length begin (length w) room) exact i s p)

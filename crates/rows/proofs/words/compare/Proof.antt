@@ -5,7 +5,7 @@ use mathlib.Core.Bool.{true, false}
 use native.Mathlib.Omega.{arith}
 use lib.ListN.{length, take, drop}
 use Rattle.rows.specs.Words.{lower}
-use Rattle.rows.specs.Laws.KnownWords.{SoFar, nothing-yet, texts, text-differs, text-same, text-ended}
+use Rattle.rows.specs.Laws.KnownWords.{SoFar, nothing-yet, texts, text-differs, text-equal, text-in-other-case, text-ended}
 use Rattle.rows.proofs.words.compare.Statement.{statement}
 use Rattle.rows.proofs.words.compare.Tie as tie
 use Rattle.rows.proofs.words.compare.Reads as reads
@@ -30,16 +30,6 @@ add-other c = omega (arith, c .before .before .loop .inv .inside)
 element-copy-out-other : tie.Need-element-copy-out-other Inv-loop μ-loop
 element-copy-out-other c = omega arith
 
-lower-case-requires : tie.Need-lower-case-requires Inv-loop μ-loop
-lower-case-requires c κs = omega arith
-
-lower-case-requires-2 : tie.Need-lower-case-requires-2 Inv-loop μ-loop
-lower-case-requires-2 c κs = omega arith
-
-returns : tie.Need-returns Inv-loop μ-loop
-unfolding texts
-returns c = text-differs _ _ (c .before .before .before .before .before .before .before .before .pre .0) _ _ (c .before .before .before .before .before .before .loop .inv) (omega arith) _ _ (c .before .before .lower-case .ensures) (rw (c .before .before .before .before .before .before .before .before .pre .1) at (c .before .lower-case2 .ensures)) (c .if1 .taken)
-
 add-i : tie.Need-add-i Inv-loop μ-loop
 add-i c = omega arith
 
@@ -48,13 +38,33 @@ loop-less c = omega arith
 
 loop-again : tie.Need-loop-again Inv-loop μ-loop
 unfolding texts
-loop-again c = rw (c .before .before .before .before .before .before .before .before .pre .1) (text-same _ _ (c .before .before .before .before .before .before .before .before .pre .0) _ _ (c .before .before .before .before .before .before .loop .inv) (omega arith) _ _ (c .before .before .lower-case .ensures) (rw (c .before .before .before .before .before .before .before .before .pre .1) at (c .before .lower-case2 .ensures)) (c .if1 .left))
+loop-again c = text-equal _ _ (c .before .before .before .before .before .before .pre .0) _ _ (c .before .before .before .before .loop .inv) (omega arith) (rw (c .before .before .before .before .before .before .pre .1) at (c .if1 .taken))
+
+lower-case-requires : tie.Need-lower-case-requires Inv-loop μ-loop
+lower-case-requires c κs = omega arith
+
+lower-case-requires-2 : tie.Need-lower-case-requires-2 Inv-loop μ-loop
+lower-case-requires-2 c κs = omega arith
+
+returns : tie.Need-returns Inv-loop μ-loop
+unfolding texts
+returns c = text-differs _ _ (c .before .before .before .before .before .before .before .before .before .pre .0) _ _ (c .before .before .before .before .before .before .before .loop .inv) (omega arith) _ _ (c .before .before .lower-case .ensures) (rw (c .before .before .before .before .before .before .before .before .before .pre .1) at (c .before .lower-case2 .ensures)) (c .if2 .taken)
+
+add-i-2 : tie.Need-add-i-2 Inv-loop μ-loop
+add-i-2 c = omega arith
+
+loop-less-2 : tie.Need-loop-less-2 Inv-loop μ-loop
+loop-less-2 c = omega arith
+
+loop-again-2 : tie.Need-loop-again-2 Inv-loop μ-loop
+unfolding texts
+loop-again-2 c = text-in-other-case _ _ (c .before .before .before .before .before .before .before .before .before .pre .0) _ _ (c .before .before .before .before .before .before .before .loop .inv) (omega arith) _ _ (c .before .before .lower-case .ensures) (rw (c .before .before .before .before .before .before .before .before .before .pre .1) at (c .before .lower-case2 .ensures)) (rw (c .before .before .before .before .before .before .before .before .before .pre .1) at (c .before .before .before .if1 .left)) (c .if2 .left)
 
 returns-2 : tie.Need-returns-2 Inv-loop μ-loop
-returns-2 c = text-ended _ _ (c .before .before .before .before .pre .0) _ _ (c .before .before .loop .inv) (omega arith) true (c .if2 .taken)
+returns-2 c = text-ended _ _ (c .before .before .before .before .pre .0) _ _ (c .before .before .loop .inv) (omega arith) true (c .if3 .taken)
 
 returns-3 : tie.Need-returns-3 Inv-loop μ-loop
-returns-3 c = text-ended _ _ (c .before .before .before .before .pre .0) _ _ (c .before .before .loop .inv) (omega arith) false (c .if2 .left)
+returns-3 c = text-ended _ _ (c .before .before .before .before .pre .0) _ _ (c .before .before .loop .inv) (omega arith) false (c .if3 .left)
 
 pub compare-spec : {M : Type 1} → statement M
 compare-spec =
@@ -66,11 +76,14 @@ compare-spec =
     shared-slice-read-byte
     add-other
     element-copy-out-other
-    lower-case-requires
-    lower-case-requires-2
-    returns
     add-i
     loop-less
     loop-again
+    lower-case-requires
+    lower-case-requires-2
+    returns
+    add-i-2
+    loop-less-2
+    loop-again-2
     returns-2
     returns-3)

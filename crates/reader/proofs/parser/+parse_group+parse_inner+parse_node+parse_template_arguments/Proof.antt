@@ -1,6 +1,7 @@
--- The proof of the cycle of `parse_group`, `parse_node` and `parse_template_arguments`. The measure is two for each token left, and one for a level.
+-- The proof of the cycle of `parse_group`, `parse_node`, `parse_inner` and `parse_template_arguments`. The measure is three for each token left, and
+-- two for a level, one for a node.
 -- Assumes nothing.
-use mathlib.Core.Path.{_≡_, sym, _∙_}
+use mathlib.Core.Path.{_≡_, refl, sym, _∙_}
 use mathlib.Core.Logic.{⊎-elim}
 use Prim.Native.Nat.{_+_, _*_, _-_, _≤_}
 use native.Mathlib.Omega.{arith}
@@ -12,46 +13,54 @@ use Rattle.reader.specs.ReaderSays.{level-due}
 use Rattle.reader.specs.Laws.Tokens.{inside}
 use Rattle.reader.specs.Laws.Ahead.{down-deep}
 use Rattle.reader.specs.Laws.GroupWays.{GroupLoop, node-found, node-finds-so, group-told, group-begins, node-here, planned-so, group-ends, group-stops, group-node-stops, group-again}
-use Rattle.reader.specs.Laws.NodeWays.{past-cursor, list-read, list-failed, list-spent, started-so, node-spends, node-token, node-group, node-group-stops, node-list, node-no-list, node-list-spends}
+use Rattle.reader.specs.Laws.NodeWays.{past-cursor, list-read, list-failed, list-spent, started-so, node-spends, node-by-token, node-group, node-group-stops, node-list, node-no-list, node-list-spends}
 use Rattle.reader.specs.Laws.ListWays.{ArgumentsLoop, NodesLoop, Ended, arguments-begin, nodes-begin, by-closed, by-empty, by-unterminated, ended-closed, ended-empty, ended-unterminated, closes-so, ends-so, list-deep, empty-first, unterminated, list-node-stops, nodes-again, argument-empty, arguments-again, arguments-closed, list-closed}
 use Prim.Native.Nat.{ℕ, _<_}
 use borrow.Fn.Kinds.{In}
 use borrow.Fn.PlainCycle.{Measures, is, falls, and}
 use Rattle.reader.proofs.parser.parse_group.Reads as parse-group
 use Rattle.reader.proofs.parser.parse_group.Kinds as parse-group-kinds
-use Rattle.reader.proofs.parser.+parse_group+parse_node+parse_template_arguments.Lts-parse_group as parse-group-lts
+use Rattle.reader.proofs.parser.+parse_group+parse_inner+parse_node+parse_template_arguments.Lts-parse_group as parse-group-lts
+use Rattle.reader.proofs.parser.parse_inner.Reads as parse-inner
+use Rattle.reader.proofs.parser.parse_inner.Kinds as parse-inner-kinds
+use Rattle.reader.proofs.parser.+parse_group+parse_inner+parse_node+parse_template_arguments.Lts-parse_inner as parse-inner-lts
 use Rattle.reader.proofs.parser.parse_node.Reads as parse-node
 use Rattle.reader.proofs.parser.parse_node.Kinds as parse-node-kinds
-use Rattle.reader.proofs.parser.+parse_group+parse_node+parse_template_arguments.Lts-parse_node as parse-node-lts
+use Rattle.reader.proofs.parser.+parse_group+parse_inner+parse_node+parse_template_arguments.Lts-parse_node as parse-node-lts
 use Rattle.reader.proofs.parser.parse_template_arguments.Reads as parse-template-arguments
 use Rattle.reader.proofs.parser.parse_template_arguments.Kinds as parse-template-arguments-kinds
-use Rattle.reader.proofs.parser.+parse_group+parse_node+parse_template_arguments.Lts-parse_template_arguments as parse-template-arguments-lts
+use Rattle.reader.proofs.parser.+parse_group+parse_inner+parse_node+parse_template_arguments.Lts-parse_template_arguments as parse-template-arguments-lts
 use Rattle.reader.proofs.nodes.put_node.Reads as put-node-reads
 use Rattle.reader.proofs.parser.TypeSyntaxParser.past.Reads as past-reads
 use Rattle.reader.proofs.parser.listing_of.Reads as listing-of-reads
+use Rattle.reader.proofs.parser.parse_token.Reads as parse-token-reads
 use Rattle.reader.proofs.parser.put_above.Reads as put-above-reads
 use Rattle.reader.proofs.parser.take_angle_close.Reads as take-angle-close-reads
 use Rattle.reader.proofs.tables.argument_ends.Reads as argument-ends-reads
 use Rattle.reader.proofs.tables.group_kind.Reads as group-kind-reads
 use Rattle.reader.proofs.tables.group_step.Reads as group-step-reads
 use Rattle.reader.proofs.tables.is_angle_close.Reads as is-angle-close-reads
+use Rattle.reader.proofs.tables.is_plain.Reads as is-plain-reads
 use Rattle.reader.proofs.tables.kind_at.Reads as kind-at-reads
 use Rattle.reader.proofs.tables.node_start.Reads as node-start-reads
-use Rattle.reader.proofs.parser.+parse_group+parse_node+parse_template_arguments.{
+use Rattle.reader.proofs.parser.+parse_group+parse_inner+parse_node+parse_template_arguments.{
   statement,
 }
-use Rattle.reader.proofs.parser.+parse_group+parse_node+parse_template_arguments.Tie.{
+use Rattle.reader.proofs.parser.+parse_group+parse_inner+parse_node+parse_template_arguments.Tie.{
   close,
 }
 
 abbrev μ-parse-group : Measures 2 parse-group-kinds.ps ℕ
-μ-parse-group κs a = 2 * (length (a .0 .now) - a .1 .1 .1 .0 .cursor) + 1
+μ-parse-group κs a = 3 * (length (a .0 .now) - a .1 .1 .1 .0 .cursor) + 2
+
+abbrev μ-parse-inner : Measures 2 parse-inner-kinds.ps ℕ
+μ-parse-inner κs a = 3 * (length (a .0 .now) - a .1 .1 .1 .0 .cursor)
 
 abbrev μ-parse-node : Measures 2 parse-node-kinds.ps ℕ
-μ-parse-node κs a = 2 * (length (a .0 .now) - a .1 .1 .1 .0 .cursor)
+μ-parse-node κs a = 3 * (length (a .0 .now) - a .1 .1 .1 .0 .cursor) + 1
 
 abbrev μ-parse-template-arguments : Measures 2 parse-template-arguments-kinds.ps ℕ
-μ-parse-template-arguments κs a = 2 * (length (a .0 .now) - a .1 .1 .1 .0 .cursor) + 1
+μ-parse-template-arguments κs a = 3 * (length (a .0 .now) - a .1 .1 .1 .0 .cursor) + 2
 
 abbrev parse-group-at : ℕ → In 2 parse-group-kinds.ps
 parse-group-at t =
@@ -60,6 +69,14 @@ parse-group-at t =
 abbrev parse-group-below : ℕ → In 2 parse-group-kinds.ps
 parse-group-below t =
     and 2 parse-group-kinds.ps (falls 2 parse-group-kinds.ps _<_ μ-parse-group t) parse-group.Pre
+
+abbrev parse-inner-at : ℕ → In 2 parse-inner-kinds.ps
+parse-inner-at t =
+    and 2 parse-inner-kinds.ps (is 2 parse-inner-kinds.ps μ-parse-inner t) parse-inner.Pre
+
+abbrev parse-inner-below : ℕ → In 2 parse-inner-kinds.ps
+parse-inner-below t =
+    and 2 parse-inner-kinds.ps (falls 2 parse-inner-kinds.ps _<_ μ-parse-inner t) parse-inner.Pre
 
 abbrev parse-node-at : ℕ → In 2 parse-node-kinds.ps
 parse-node-at t =
@@ -167,140 +184,167 @@ parse-group-loop-less t c = let w = node-found (c .before .read .given .1) (c .b
 parse-group-loop-again : (t : ℕ) → parse-group-lts.Need-loop-again (parse-group-calls t) (parse-group-at t) parse-group.Post parse-group-Inv-loop parse-group-μ-loop
 parse-group-loop-again t c = group-again (c .before .before .before .before .before .before .before .before .before .before .before .loop .inv) (omega arith) (planned-so (c .before .before .before .before .before .before .before .before .before .before .kind-at .ensures) (c .before .before .before .before .before .before .before .enum-told .given .1) (c .before .before .before .before .before .before .before .before .before .group-step .ensures)) (c .before .before .before .before .before .before .before .before .before .before .kind-at .ensures) _ (node-found (c .before .read .given .1) (c .before .before .before .before .before .parse-node .ensures)) (c .before .before .before .before .before .parse-node .kept .1 .1 .0)
 
+abbrev parse-inner-calls : ℕ → parse-inner-lts.Claims
+parse-inner-calls t = (past-reads.Asked, past-reads.Learnt, kind-at-reads.Asked, kind-at-reads.Learnt, node-start-reads.Asked, node-start-reads.Learnt, parse-group-below t, parse-group.Post, group-kind-reads.Asked, group-kind-reads.Learnt, put-above-reads.Asked, put-above-reads.Learnt, parse-template-arguments-below t, parse-template-arguments.Post, parse-token-reads.Asked, parse-token-reads.Learnt)
+
+parse-inner-returns : (t : ℕ) → parse-inner-lts.Need-returns (parse-inner-calls t) (parse-inner-at t) parse-inner.Post
+parse-inner-returns t c = record { says = node-spends _ _ _ _ _ _ (c .if1 .taken) }
+
+parse-inner-sub-past : (t : ℕ) → parse-inner-lts.Need-sub-past (parse-inner-calls t) (parse-inner-at t) parse-inner.Post
+parse-inner-sub-past t c = omega arith
+
+parse-inner-past-requires : (t : ℕ) → parse-inner-lts.Need-past-requires (parse-inner-calls t) (parse-inner-at t) parse-inner.Post
+parse-inner-past-requires t c κs = search needs
+
+parse-inner-kind-at-requires : (t : ℕ) → parse-inner-lts.Need-kind-at-requires (parse-inner-calls t) (parse-inner-at t) parse-inner.Post
+parse-inner-kind-at-requires t c κs = search needs
+
+parse-inner-node-start-requires : (t : ℕ) → parse-inner-lts.Need-node-start-requires (parse-inner-calls t) (parse-inner-at t) parse-inner.Post
+parse-inner-node-start-requires t c κs = search needs
+
+parse-inner-enum-known-start : (t : ℕ) → parse-inner-lts.Need-enum-known-start (parse-inner-calls t) (parse-inner-at t) parse-inner.Post
+parse-inner-enum-known-start t c = search needs
+
+parse-inner-sub-parse-group : (t : ℕ) → parse-inner-lts.Need-sub-parse-group (parse-inner-calls t) (parse-inner-at t) parse-inner.Post
+parse-inner-sub-parse-group t c = omega arith
+
+parse-inner-part-parse-group-start : (t : ℕ) → parse-inner-lts.Need-part-parse-group-start (parse-inner-calls t) (parse-inner-at t) parse-inner.Post
+parse-inner-part-parse-group-start t c = omega arith
+
+parse-inner-part-parse-group-end : (t : ℕ) → parse-inner-lts.Need-part-parse-group-end (parse-inner-calls t) (parse-inner-at t) parse-inner.Post
+parse-inner-part-parse-group-end t c = omega arith
+
+parse-inner-add-parse-group : (t : ℕ) → parse-inner-lts.Need-add-parse-group (parse-inner-calls t) (parse-inner-at t) parse-inner.Post
+parse-inner-add-parse-group t c = omega arith
+
+parse-inner-parse-group-requires : (t : ℕ) → parse-inner-lts.Need-parse-group-requires (parse-inner-calls t) (parse-inner-at t) parse-inner.Post
+parse-inner-parse-group-requires t c κs = let b = past-cursor (c .before .before .before .before .before .before .before .before .before .before .args .parser) _ (c .before .before .before .before .before .before .past .ensures) in (omega arith, record { within = omega arith; short = omega arith; room = simp (length-take, length-drop) (omega arith); fewer = omega arith; shallow = omega arith })
+
+parse-inner-enum-known-read : (t : ℕ) → parse-inner-lts.Need-enum-known-read (parse-inner-calls t) (parse-inner-at t) parse-inner.Post
+parse-inner-enum-known-read t c = search needs
+
+parse-inner-enum-told : (t : ℕ) → parse-inner-lts.Need-enum-told (parse-inner-calls t) (parse-inner-at t) parse-inner.Post
+parse-inner-enum-told t c = search needs
+
+parse-inner-same-length : (t : ℕ) → parse-inner-lts.Need-same-length (parse-inner-calls t) (parse-inner-at t) parse-inner.Post
+parse-inner-same-length t c = omega arith
+
+parse-inner-returns-2 : (t : ℕ) → parse-inner-lts.Need-returns-2 (parse-inner-calls t) (parse-inner-at t) parse-inner.Post
+parse-inner-returns-2 t c = node-group-stops _ _ _ _ _ _ (c .before .before .before .before .before .before .before .before .before .before .before .before .if1 .left) (c .before .before .before .before .before .before .before .before .before .before .before .past .ensures) _ (started-so _ _ (c .before .before .before .before .before .before .before .before .before .before .kind-at .ensures) (c .before .before .before .before .before .before .before .start .given .1) (c .before .before .before .before .before .before .before .before .before .node-start .ensures)) (c .enum-told .given .1) (c .before .before .before .before .parse-group .ensures)
+
+parse-inner-group-kind-requires : (t : ℕ) → parse-inner-lts.Need-group-kind-requires (parse-inner-calls t) (parse-inner-at t) parse-inner.Post
+parse-inner-group-kind-requires t c κs = search needs
+
+parse-inner-put-above-requires : (t : ℕ) → parse-inner-lts.Need-put-above-requires (parse-inner-calls t) (parse-inner-at t) parse-inner.Post
+parse-inner-put-above-requires t c κs = let w = group-told (c .before .before .before .read .given .1) (c .before .before .before .before .before .before .before .parse-group .ensures) in omega (arith, c .before .before .before .before .before .before .before .before .before .before .before .before .before .before .before .before .before .before .pre .1 .0 .room, c .before .before .before .before .before .before .before .before .before .before .before .before .before .before .before .before .before .before .pre .1 .0 .short, c .before .before .before .before .before .before .before .before .before .before .before .before .before .before .before .before .before .before .pre .1 .1)
+
+parse-inner-enum-told-2 : (t : ℕ) → parse-inner-lts.Need-enum-told-2 (parse-inner-calls t) (parse-inner-at t) parse-inner.Post
+parse-inner-enum-told-2 t c = search needs
+
+parse-inner-sub-parse-template-arguments :
+    (t : ℕ) → parse-inner-lts.Need-sub-parse-template-arguments (parse-inner-calls t) (parse-inner-at t) parse-inner.Post
+parse-inner-sub-parse-template-arguments t c = omega arith
+
+parse-inner-part-parse-template-arguments-start :
+    (t : ℕ) → parse-inner-lts.Need-part-parse-template-arguments-start (parse-inner-calls t) (parse-inner-at t) parse-inner.Post
+parse-inner-part-parse-template-arguments-start t c = omega arith
+
+parse-inner-part-parse-template-arguments-end :
+    (t : ℕ) → parse-inner-lts.Need-part-parse-template-arguments-end (parse-inner-calls t) (parse-inner-at t) parse-inner.Post
+parse-inner-part-parse-template-arguments-end t c = omega arith
+
+parse-inner-add-parse-template-arguments :
+    (t : ℕ) → parse-inner-lts.Need-add-parse-template-arguments (parse-inner-calls t) (parse-inner-at t) parse-inner.Post
+parse-inner-add-parse-template-arguments t c = omega arith
+
+parse-inner-add-parse-template-arguments-2 :
+    (t : ℕ) → parse-inner-lts.Need-add-parse-template-arguments-2 (parse-inner-calls t) (parse-inner-at t) parse-inner.Post
+parse-inner-add-parse-template-arguments-2 t c = omega arith
+
+parse-inner-parse-template-arguments-requires :
+    (t : ℕ) → parse-inner-lts.Need-parse-template-arguments-requires (parse-inner-calls t) (parse-inner-at t) parse-inner.Post
+parse-inner-parse-template-arguments-requires t c κs = let b = past-cursor (c .before .before .before .before .before .before .before .before .before .args .parser) _ (c .before .before .before .before .before .past .ensures) in (omega arith, record { within = omega arith; short = omega arith; room = simp (length-take, length-drop) (omega arith); fewer = omega arith; shallow = omega arith })
+
+parse-inner-enum-known-tried : (t : ℕ) → parse-inner-lts.Need-enum-known-tried (parse-inner-calls t) (parse-inner-at t) parse-inner.Post
+parse-inner-enum-known-tried t c = search needs
+
+parse-inner-put-above-requires-2 : (t : ℕ) → parse-inner-lts.Need-put-above-requires-2 (parse-inner-calls t) (parse-inner-at t) parse-inner.Post
+parse-inner-put-above-requires-2 t c κs = let w = list-read (c .before .before .tried .given .1) (c .before .before .before .before .before .before .parse-template-arguments .ensures) in omega (arith, c .before .before .before .before .before .before .before .before .before .before .before .before .before .before .before .before .pre .1 .0 .room, c .before .before .before .before .before .before .before .before .before .before .before .before .before .before .before .before .pre .1 .0 .short, c .before .before .before .before .before .before .before .before .before .before .before .before .before .before .before .before .pre .1 .1)
+
+parse-inner-enum-known-tried-2 : (t : ℕ) → parse-inner-lts.Need-enum-known-tried-2 (parse-inner-calls t) (parse-inner-at t) parse-inner.Post
+parse-inner-enum-known-tried-2 t c = search needs
+
+parse-inner-past-requires-2 : (t : ℕ) → parse-inner-lts.Need-past-requires-2 (parse-inner-calls t) (parse-inner-at t) parse-inner.Post
+parse-inner-past-requires-2 t c κs = search needs
+
+parse-inner-put-above-requires-3 : (t : ℕ) → parse-inner-lts.Need-put-above-requires-3 (parse-inner-calls t) (parse-inner-at t) parse-inner.Post
+parse-inner-put-above-requires-3 t c κs = omega arith
+
+parse-inner-enum-told-3 : (t : ℕ) → parse-inner-lts.Need-enum-told-3 (parse-inner-calls t) (parse-inner-at t) parse-inner.Post
+parse-inner-enum-told-3 t c = search needs
+
+parse-inner-enum-told-4 : (t : ℕ) → parse-inner-lts.Need-enum-told-4 (parse-inner-calls t) (parse-inner-at t) parse-inner.Post
+parse-inner-enum-told-4 t c = search needs
+
+parse-inner-parse-token-requires : (t : ℕ) → parse-inner-lts.Need-parse-token-requires (parse-inner-calls t) (parse-inner-at t) parse-inner.Post
+parse-inner-parse-token-requires t c κs = omega (arith, c .before .before .before .before .before .before .before .before .before .pre .1 .0 .room, c .before .before .before .before .before .before .before .before .before .pre .1 .0 .short, c .before .before .before .before .before .before .before .before .before .pre .1 .1)
+
+parse-inner-same-length-2 : (t : ℕ) → parse-inner-lts.Need-same-length-2 (parse-inner-calls t) (parse-inner-at t) parse-inner.Post
+parse-inner-same-length-2 t c = omega arith
+
+parse-inner-returns-3 : (t : ℕ) → parse-inner-lts.Need-returns-3 (parse-inner-calls t) (parse-inner-at t) parse-inner.Post
+parse-inner-returns-3 t c = node-finds-so (c .before .before .put-above .ensures .0) (node-group _ _ _ _ _ _ (c .before .before .before .before .before .before .before .before .before .before .before .before .before .before .before .before .before .before .if1 .left) (c .before .before .before .before .before .before .before .before .before .before .before .before .before .before .before .before .before .past .ensures) _ (started-so _ _ (c .before .before .before .before .before .before .before .before .before .before .before .before .before .before .before .before .kind-at .ensures) (c .before .before .before .before .before .before .before .before .before .before .before .before .before .start .given .1) (c .before .before .before .before .before .before .before .before .before .before .before .before .before .before .before .node-start .ensures)) (c .before .before .before .before .before .before .before .before .before .before .before .before .before .before .before .before .before .before .before .before .before .args .tree .now) _ _ (group-told (c .before .before .before .before .before .before .read .given .1) (c .before .before .before .before .before .before .before .before .before .before .parse-group .ensures)) (c .before .before .before .group-kind .ensures) (c .before .before .put-above .ensures .1) (omega (arith, c .before .before .before .before .before .before .before .before .before .before .before .before .before .before .before .before .before .before .before .before .before .pre .1 .0 .room, c .before .before .before .before .before .before .before .before .before .before .before .before .before .before .before .before .before .before .before .before .before .pre .1 .0 .short, c .before .before .before .before .before .before .before .before .before .before .before .before .before .before .before .before .before .before .before .before .before .pre .1 .1)))
+
+parse-inner-same-length-3 : (t : ℕ) → parse-inner-lts.Need-same-length-3 (parse-inner-calls t) (parse-inner-at t) parse-inner.Post
+parse-inner-same-length-3 t c = omega arith
+
+parse-inner-returns-4 : (t : ℕ) → parse-inner-lts.Need-returns-4 (parse-inner-calls t) (parse-inner-at t) parse-inner.Post
+parse-inner-returns-4 t c = node-finds-so (c .before .before .put-above2 .ensures .0) (node-list _ _ _ _ _ _ (c .before .before .before .before .before .before .before .before .before .before .before .before .before .before .before .before .if1 .left) (c .before .before .before .before .before .before .before .before .before .before .before .before .before .before .before .past .ensures) (started-so _ _ (c .before .before .before .before .before .before .before .before .before .before .before .before .before .before .kind-at .ensures) (c .before .before .before .before .before .before .before .before .before .before .before .enum-told2 .given .1) (c .before .before .before .before .before .before .before .before .before .before .before .before .before .node-start .ensures)) (c .before .before .before .before .before .before .before .before .before .before .before .before .before .before .before .before .before .before .before .args .tree .now) _ _ (list-read (c .before .before .before .before .before .tried .given .1) (c .before .before .before .before .before .before .before .before .before .parse-template-arguments .ensures)) (c .before .before .put-above2 .ensures .1) (omega (arith, c .before .before .before .before .before .before .before .before .before .before .before .before .before .before .before .before .before .before .before .pre .1 .0 .room, c .before .before .before .before .before .before .before .before .before .before .before .before .before .before .before .before .before .before .before .pre .1 .0 .short, c .before .before .before .before .before .before .before .before .before .before .before .before .before .before .before .before .before .before .before .pre .1 .1)))
+
+parse-inner-same-length-4 : (t : ℕ) → parse-inner-lts.Need-same-length-4 (parse-inner-calls t) (parse-inner-at t) parse-inner.Post
+parse-inner-same-length-4 t c = omega arith
+
+parse-inner-returns-5 : (t : ℕ) → parse-inner-lts.Need-returns-5 (parse-inner-calls t) (parse-inner-at t) parse-inner.Post
+parse-inner-returns-5 t c = node-finds-so (c .before .before .put-above3 .ensures .0) (node-no-list _ _ _ _ _ _ (c .before .before .before .before .before .before .before .before .before .before .before .before .before .before .before .before .before .if1 .left) (c .before .before .before .before .before .before .before .before .before .before .before .before .before .before .before .before .past .ensures) (started-so _ _ (c .before .before .before .before .before .before .before .before .before .before .before .before .before .before .before .kind-at .ensures) (c .before .before .before .before .before .before .before .before .before .before .before .before .enum-told2 .given .1) (c .before .before .before .before .before .before .before .before .before .before .before .before .before .before .node-start .ensures)) (c .before .before .before .past2 .ensures) (list-failed (c .before .before .before .before .before .before .tried2 .given .1) (c .before .before .before .before .before .before .before .before .before .before .parse-template-arguments .ensures)) (c .before .before .before .before .before .before .before .before .before .before .before .before .before .before .before .before .before .before .before .before .pre .1 .1) (c .before .before .put-above3 .ensures .1))
+
+parse-inner-same-length-5 : (t : ℕ) → parse-inner-lts.Need-same-length-5 (parse-inner-calls t) (parse-inner-at t) parse-inner.Post
+parse-inner-same-length-5 t c = omega arith
+
+parse-inner-returns-6 : (t : ℕ) → parse-inner-lts.Need-returns-6 (parse-inner-calls t) (parse-inner-at t) parse-inner.Post
+parse-inner-returns-6 t c = record { says = node-list-spends _ _ _ _ _ _ (c .before .before .before .before .before .before .before .before .before .before .before .if1 .left) (c .before .before .before .before .before .before .before .before .before .before .past .ensures) (started-so _ _ (c .before .before .before .before .before .before .before .before .before .kind-at .ensures) (c .before .before .before .before .before .before .enum-told2 .given .1) (c .before .before .before .before .before .before .before .before .node-start .ensures)) (list-spent (c .enum-told3 .given .1) (c .before .before .before .before .parse-template-arguments .ensures)) }
+
+parse-inner-same-length-6 : (t : ℕ) → parse-inner-lts.Need-same-length-6 (parse-inner-calls t) (parse-inner-at t) parse-inner.Post
+parse-inner-same-length-6 t c = omega arith
+
+parse-inner-returns-7 : (t : ℕ) → parse-inner-lts.Need-returns-7 (parse-inner-calls t) (parse-inner-at t) parse-inner.Post
+parse-inner-returns-7 t c = node-by-token _ _ _ _ _ _ (started-so _ _ (c .before .before .before .before .before .before .before .kind-at .ensures) (c .before .before .before .before .enum-told4 .given .1) (c .before .before .before .before .before .before .node-start .ensures)) (c .before .before .before .before .before .before .before .before .before .before .before .before .pre .1 .1) (c .before .before .parse-token .ensures)
+
 abbrev parse-node-calls : ℕ → parse-node-lts.Claims
-parse-node-calls t = (past-reads.Asked, past-reads.Learnt, kind-at-reads.Asked, kind-at-reads.Learnt, node-start-reads.Asked, node-start-reads.Learnt, parse-group-below t, parse-group.Post, group-kind-reads.Asked, group-kind-reads.Learnt, put-above-reads.Asked, put-above-reads.Learnt, parse-template-arguments-below t, parse-template-arguments.Post)
-
-parse-node-returns : (t : ℕ) → parse-node-lts.Need-returns (parse-node-calls t) (parse-node-at t) parse-node.Post
-parse-node-returns t c = record { says = node-spends _ _ _ _ _ _ (c .if1 .taken) }
-
-parse-node-sub-past : (t : ℕ) → parse-node-lts.Need-sub-past (parse-node-calls t) (parse-node-at t) parse-node.Post
-parse-node-sub-past t c = omega arith
-
-parse-node-past-requires : (t : ℕ) → parse-node-lts.Need-past-requires (parse-node-calls t) (parse-node-at t) parse-node.Post
-parse-node-past-requires t c κs = search needs
+parse-node-calls t = (kind-at-reads.Asked, kind-at-reads.Learnt, is-plain-reads.Asked, is-plain-reads.Learnt, parse-token-reads.Asked, parse-token-reads.Learnt, parse-inner-below t, parse-inner.Post)
 
 parse-node-kind-at-requires : (t : ℕ) → parse-node-lts.Need-kind-at-requires (parse-node-calls t) (parse-node-at t) parse-node.Post
 parse-node-kind-at-requires t c κs = search needs
 
-parse-node-node-start-requires : (t : ℕ) → parse-node-lts.Need-node-start-requires (parse-node-calls t) (parse-node-at t) parse-node.Post
-parse-node-node-start-requires t c κs = search needs
+parse-node-is-plain-requires : (t : ℕ) → parse-node-lts.Need-is-plain-requires (parse-node-calls t) (parse-node-at t) parse-node.Post
+parse-node-is-plain-requires t c κs = search needs
 
-parse-node-enum-known-start : (t : ℕ) → parse-node-lts.Need-enum-known-start (parse-node-calls t) (parse-node-at t) parse-node.Post
-parse-node-enum-known-start t c = search needs
-
-parse-node-sub-parse-group : (t : ℕ) → parse-node-lts.Need-sub-parse-group (parse-node-calls t) (parse-node-at t) parse-node.Post
-parse-node-sub-parse-group t c = omega arith
-
-parse-node-part-parse-group-start : (t : ℕ) → parse-node-lts.Need-part-parse-group-start (parse-node-calls t) (parse-node-at t) parse-node.Post
-parse-node-part-parse-group-start t c = omega arith
-
-parse-node-part-parse-group-end : (t : ℕ) → parse-node-lts.Need-part-parse-group-end (parse-node-calls t) (parse-node-at t) parse-node.Post
-parse-node-part-parse-group-end t c = omega arith
-
-parse-node-add-parse-group : (t : ℕ) → parse-node-lts.Need-add-parse-group (parse-node-calls t) (parse-node-at t) parse-node.Post
-parse-node-add-parse-group t c = omega arith
-
-parse-node-parse-group-requires : (t : ℕ) → parse-node-lts.Need-parse-group-requires (parse-node-calls t) (parse-node-at t) parse-node.Post
-parse-node-parse-group-requires t c κs = let b = past-cursor (c .before .before .before .before .before .before .before .before .before .before .args .parser) _ (c .before .before .before .before .before .before .past .ensures) in (omega arith, record { within = omega arith; short = omega arith; room = simp (length-take, length-drop) (omega arith); fewer = omega arith; shallow = omega arith })
-
-parse-node-enum-known-read : (t : ℕ) → parse-node-lts.Need-enum-known-read (parse-node-calls t) (parse-node-at t) parse-node.Post
-parse-node-enum-known-read t c = search needs
-
-parse-node-enum-told : (t : ℕ) → parse-node-lts.Need-enum-told (parse-node-calls t) (parse-node-at t) parse-node.Post
-parse-node-enum-told t c = search needs
+parse-node-parse-token-requires : (t : ℕ) → parse-node-lts.Need-parse-token-requires (parse-node-calls t) (parse-node-at t) parse-node.Post
+parse-node-parse-token-requires t c κs = omega (arith, c .before .before .before .before .before .before .pre .1 .0 .room, c .before .before .before .before .before .before .pre .1 .0 .short, c .before .before .before .before .before .before .pre .1 .1)
 
 parse-node-same-length : (t : ℕ) → parse-node-lts.Need-same-length (parse-node-calls t) (parse-node-at t) parse-node.Post
 parse-node-same-length t c = omega arith
 
-parse-node-returns-2 : (t : ℕ) → parse-node-lts.Need-returns-2 (parse-node-calls t) (parse-node-at t) parse-node.Post
-parse-node-returns-2 t c = node-group-stops _ _ _ _ _ _ (c .before .before .before .before .before .before .before .before .before .before .before .before .if1 .left) (c .before .before .before .before .before .before .before .before .before .before .before .past .ensures) _ (started-so _ _ (c .before .before .before .before .before .before .before .before .before .before .kind-at .ensures) (c .before .before .before .before .before .before .before .start .given .1) (c .before .before .before .before .before .before .before .before .before .node-start .ensures)) (c .enum-told .given .1) (c .before .before .before .before .parse-group .ensures)
+parse-node-returns : (t : ℕ) → parse-node-lts.Need-returns (parse-node-calls t) (parse-node-at t) parse-node.Post
+parse-node-returns t c = node-by-token _ _ _ _ _ _ (started-so _ _ (c .before .before .before .before .before .before .kind-at .ensures) refl (c .before .before .before .before .before .is-plain .ensures .plain (c .before .before .before .before .if1 .taken))) (c .before .before .before .before .before .before .before .before .before .pre .1 .1) (c .before .before .parse-token .ensures)
 
-parse-node-group-kind-requires : (t : ℕ) → parse-node-lts.Need-group-kind-requires (parse-node-calls t) (parse-node-at t) parse-node.Post
-parse-node-group-kind-requires t c κs = search needs
-
-parse-node-put-above-requires : (t : ℕ) → parse-node-lts.Need-put-above-requires (parse-node-calls t) (parse-node-at t) parse-node.Post
-parse-node-put-above-requires t c κs = let w = group-told (c .before .before .before .read .given .1) (c .before .before .before .before .before .before .before .parse-group .ensures) in omega (arith, c .before .before .before .before .before .before .before .before .before .before .before .before .before .before .before .before .before .before .pre .1 .0 .room, c .before .before .before .before .before .before .before .before .before .before .before .before .before .before .before .before .before .before .pre .1 .0 .short, c .before .before .before .before .before .before .before .before .before .before .before .before .before .before .before .before .before .before .pre .1 .1)
-
-parse-node-enum-told-2 : (t : ℕ) → parse-node-lts.Need-enum-told-2 (parse-node-calls t) (parse-node-at t) parse-node.Post
-parse-node-enum-told-2 t c = search needs
-
-parse-node-sub-parse-template-arguments :
-    (t : ℕ) → parse-node-lts.Need-sub-parse-template-arguments (parse-node-calls t) (parse-node-at t) parse-node.Post
-parse-node-sub-parse-template-arguments t c = omega arith
-
-parse-node-part-parse-template-arguments-start :
-    (t : ℕ) → parse-node-lts.Need-part-parse-template-arguments-start (parse-node-calls t) (parse-node-at t) parse-node.Post
-parse-node-part-parse-template-arguments-start t c = omega arith
-
-parse-node-part-parse-template-arguments-end :
-    (t : ℕ) → parse-node-lts.Need-part-parse-template-arguments-end (parse-node-calls t) (parse-node-at t) parse-node.Post
-parse-node-part-parse-template-arguments-end t c = omega arith
-
-parse-node-add-parse-template-arguments :
-    (t : ℕ) → parse-node-lts.Need-add-parse-template-arguments (parse-node-calls t) (parse-node-at t) parse-node.Post
-parse-node-add-parse-template-arguments t c = omega arith
-
-parse-node-add-parse-template-arguments-2 :
-    (t : ℕ) → parse-node-lts.Need-add-parse-template-arguments-2 (parse-node-calls t) (parse-node-at t) parse-node.Post
-parse-node-add-parse-template-arguments-2 t c = omega arith
-
-parse-node-parse-template-arguments-requires :
-    (t : ℕ) → parse-node-lts.Need-parse-template-arguments-requires (parse-node-calls t) (parse-node-at t) parse-node.Post
-parse-node-parse-template-arguments-requires t c κs = let b = past-cursor (c .before .before .before .before .before .before .before .before .before .args .parser) _ (c .before .before .before .before .before .past .ensures) in (omega arith, record { within = omega arith; short = omega arith; room = simp (length-take, length-drop) (omega arith); fewer = omega arith; shallow = omega arith })
-
-parse-node-enum-known-tried : (t : ℕ) → parse-node-lts.Need-enum-known-tried (parse-node-calls t) (parse-node-at t) parse-node.Post
-parse-node-enum-known-tried t c = search needs
-
-parse-node-put-above-requires-2 : (t : ℕ) → parse-node-lts.Need-put-above-requires-2 (parse-node-calls t) (parse-node-at t) parse-node.Post
-parse-node-put-above-requires-2 t c κs = let w = list-read (c .before .before .tried .given .1) (c .before .before .before .before .before .before .parse-template-arguments .ensures) in omega (arith, c .before .before .before .before .before .before .before .before .before .before .before .before .before .before .before .before .pre .1 .0 .room, c .before .before .before .before .before .before .before .before .before .before .before .before .before .before .before .before .pre .1 .0 .short, c .before .before .before .before .before .before .before .before .before .before .before .before .before .before .before .before .pre .1 .1)
-
-parse-node-enum-known-tried-2 : (t : ℕ) → parse-node-lts.Need-enum-known-tried-2 (parse-node-calls t) (parse-node-at t) parse-node.Post
-parse-node-enum-known-tried-2 t c = search needs
-
-parse-node-past-requires-2 : (t : ℕ) → parse-node-lts.Need-past-requires-2 (parse-node-calls t) (parse-node-at t) parse-node.Post
-parse-node-past-requires-2 t c κs = search needs
-
-parse-node-put-above-requires-3 : (t : ℕ) → parse-node-lts.Need-put-above-requires-3 (parse-node-calls t) (parse-node-at t) parse-node.Post
-parse-node-put-above-requires-3 t c κs = omega arith
-
-parse-node-enum-told-3 : (t : ℕ) → parse-node-lts.Need-enum-told-3 (parse-node-calls t) (parse-node-at t) parse-node.Post
-parse-node-enum-told-3 t c = search needs
-
-parse-node-enum-told-4 : (t : ℕ) → parse-node-lts.Need-enum-told-4 (parse-node-calls t) (parse-node-at t) parse-node.Post
-parse-node-enum-told-4 t c = search needs
-
-parse-node-put-above-requires-4 : (t : ℕ) → parse-node-lts.Need-put-above-requires-4 (parse-node-calls t) (parse-node-at t) parse-node.Post
-parse-node-put-above-requires-4 t c κs = omega arith
+parse-node-parse-inner-requires : (t : ℕ) → parse-node-lts.Need-parse-inner-requires (parse-node-calls t) (parse-node-at t) parse-node.Post
+parse-node-parse-inner-requires t c κs = (omega arith, c .before .before .before .before .before .before .pre .1)
 
 parse-node-same-length-2 : (t : ℕ) → parse-node-lts.Need-same-length-2 (parse-node-calls t) (parse-node-at t) parse-node.Post
 parse-node-same-length-2 t c = omega arith
 
-parse-node-returns-3 : (t : ℕ) → parse-node-lts.Need-returns-3 (parse-node-calls t) (parse-node-at t) parse-node.Post
-parse-node-returns-3 t c = node-finds-so (c .before .before .put-above .ensures .0) (node-group _ _ _ _ _ _ (c .before .before .before .before .before .before .before .before .before .before .before .before .before .before .before .before .before .before .if1 .left) (c .before .before .before .before .before .before .before .before .before .before .before .before .before .before .before .before .before .past .ensures) _ (started-so _ _ (c .before .before .before .before .before .before .before .before .before .before .before .before .before .before .before .before .kind-at .ensures) (c .before .before .before .before .before .before .before .before .before .before .before .before .before .start .given .1) (c .before .before .before .before .before .before .before .before .before .before .before .before .before .before .before .node-start .ensures)) (c .before .before .before .before .before .before .before .before .before .before .before .before .before .before .before .before .before .before .before .before .before .args .tree .now) _ _ (group-told (c .before .before .before .before .before .before .read .given .1) (c .before .before .before .before .before .before .before .before .before .before .parse-group .ensures)) (c .before .before .before .group-kind .ensures) (c .before .before .put-above .ensures .1) (omega (arith, c .before .before .before .before .before .before .before .before .before .before .before .before .before .before .before .before .before .before .before .before .before .pre .1 .0 .room, c .before .before .before .before .before .before .before .before .before .before .before .before .before .before .before .before .before .before .before .before .before .pre .1 .0 .short, c .before .before .before .before .before .before .before .before .before .before .before .before .before .before .before .before .before .before .before .before .before .pre .1 .1)))
-
-parse-node-same-length-3 : (t : ℕ) → parse-node-lts.Need-same-length-3 (parse-node-calls t) (parse-node-at t) parse-node.Post
-parse-node-same-length-3 t c = omega arith
-
-parse-node-returns-4 : (t : ℕ) → parse-node-lts.Need-returns-4 (parse-node-calls t) (parse-node-at t) parse-node.Post
-parse-node-returns-4 t c = node-finds-so (c .before .before .put-above2 .ensures .0) (node-list _ _ _ _ _ _ (c .before .before .before .before .before .before .before .before .before .before .before .before .before .before .before .before .if1 .left) (c .before .before .before .before .before .before .before .before .before .before .before .before .before .before .before .past .ensures) (started-so _ _ (c .before .before .before .before .before .before .before .before .before .before .before .before .before .before .kind-at .ensures) (c .before .before .before .before .before .before .before .before .before .before .before .enum-told2 .given .1) (c .before .before .before .before .before .before .before .before .before .before .before .before .before .node-start .ensures)) (c .before .before .before .before .before .before .before .before .before .before .before .before .before .before .before .before .before .before .before .args .tree .now) _ _ (list-read (c .before .before .before .before .before .tried .given .1) (c .before .before .before .before .before .before .before .before .before .parse-template-arguments .ensures)) (c .before .before .put-above2 .ensures .1) (omega (arith, c .before .before .before .before .before .before .before .before .before .before .before .before .before .before .before .before .before .before .before .pre .1 .0 .room, c .before .before .before .before .before .before .before .before .before .before .before .before .before .before .before .before .before .before .before .pre .1 .0 .short, c .before .before .before .before .before .before .before .before .before .before .before .before .before .before .before .before .before .before .before .pre .1 .1)))
-
-parse-node-same-length-4 : (t : ℕ) → parse-node-lts.Need-same-length-4 (parse-node-calls t) (parse-node-at t) parse-node.Post
-parse-node-same-length-4 t c = omega arith
-
-parse-node-returns-5 : (t : ℕ) → parse-node-lts.Need-returns-5 (parse-node-calls t) (parse-node-at t) parse-node.Post
-parse-node-returns-5 t c = node-finds-so (c .before .before .put-above3 .ensures .0) (node-no-list _ _ _ _ _ _ (c .before .before .before .before .before .before .before .before .before .before .before .before .before .before .before .before .before .if1 .left) (c .before .before .before .before .before .before .before .before .before .before .before .before .before .before .before .before .past .ensures) (started-so _ _ (c .before .before .before .before .before .before .before .before .before .before .before .before .before .before .before .kind-at .ensures) (c .before .before .before .before .before .before .before .before .before .before .before .before .enum-told2 .given .1) (c .before .before .before .before .before .before .before .before .before .before .before .before .before .before .node-start .ensures)) (c .before .before .before .past2 .ensures) (list-failed (c .before .before .before .before .before .before .tried2 .given .1) (c .before .before .before .before .before .before .before .before .before .before .parse-template-arguments .ensures)) (c .before .before .before .before .before .before .before .before .before .before .before .before .before .before .before .before .before .before .before .before .pre .1 .1) (c .before .before .put-above3 .ensures .1))
-
-parse-node-same-length-5 : (t : ℕ) → parse-node-lts.Need-same-length-5 (parse-node-calls t) (parse-node-at t) parse-node.Post
-parse-node-same-length-5 t c = omega arith
-
-parse-node-returns-6 : (t : ℕ) → parse-node-lts.Need-returns-6 (parse-node-calls t) (parse-node-at t) parse-node.Post
-parse-node-returns-6 t c = record { says = node-list-spends _ _ _ _ _ _ (c .before .before .before .before .before .before .before .before .before .before .before .if1 .left) (c .before .before .before .before .before .before .before .before .before .before .past .ensures) (started-so _ _ (c .before .before .before .before .before .before .before .before .before .kind-at .ensures) (c .before .before .before .before .before .before .enum-told2 .given .1) (c .before .before .before .before .before .before .before .before .node-start .ensures)) (list-spent (c .enum-told3 .given .1) (c .before .before .before .before .parse-template-arguments .ensures)) }
-
-parse-node-same-length-6 : (t : ℕ) → parse-node-lts.Need-same-length-6 (parse-node-calls t) (parse-node-at t) parse-node.Post
-parse-node-same-length-6 t c = omega arith
-
-parse-node-returns-7 : (t : ℕ) → parse-node-lts.Need-returns-7 (parse-node-calls t) (parse-node-at t) parse-node.Post
-parse-node-returns-7 t c = node-finds-so (c .before .before .put-above4 .ensures .0) (node-token _ _ _ _ _ _ (c .before .before .before .before .before .before .before .before .before .if1 .left) (c .before .before .before .before .before .before .before .before .past .ensures) (started-so _ _ (c .before .before .before .before .before .before .before .kind-at .ensures) (c .before .before .before .before .enum-told4 .given .1) (c .before .before .before .before .before .before .node-start .ensures)) (c .before .before .before .before .before .before .before .before .before .before .before .before .pre .1 .1) (c .before .before .put-above4 .ensures .1))
+parse-node-returns-2 : (t : ℕ) → parse-node-lts.Need-returns-2 (parse-node-calls t) (parse-node-at t) parse-node.Post
+parse-node-returns-2 t c = c .before .before .parse-inner .ensures
 
 abbrev parse-template-arguments-Inv-nodes : parse-template-arguments-lts.InvT-nodes
 parse-template-arguments-Inv-nodes kinds cpp tree₀ lists nesting now₀ nodes first head word₀ inner₀ tree now word inner = NodesLoop cpp kinds lists nesting head tree₀ now₀ tree now word inner
@@ -766,9 +810,14 @@ parse-template-arguments-returns-5 : (t : ℕ) → parse-template-arguments-lts.
     parse-template-arguments-μ-arguments
 parse-template-arguments-returns-5 t c = record { says = by-unterminated (c .enum-told4 .given .1) (ended t (c .before .before)) }
 
-pub +parse-group+parse-node+parse-template-arguments-spec : {M : Type 1} → statement M
-+parse-group+parse-node+parse-template-arguments-spec =
-    close μ-parse-group μ-parse-node μ-parse-template-arguments (λ t. parse-group-lts.spec (parse-group-calls t)
+pub +parse-group+parse-inner+parse-node+parse-template-arguments-spec : {M : Type 1} → statement M
++parse-group+parse-inner+parse-node+parse-template-arguments-spec =
+    close
+    μ-parse-group
+    μ-parse-inner
+    μ-parse-node
+    μ-parse-template-arguments
+    (λ t. parse-group-lts.spec (parse-group-calls t)
     (parse-group-at t)
     parse-group.Post
     parse-group-Inv-loop
@@ -797,51 +846,62 @@ pub +parse-group+parse-node+parse-template-arguments-spec : {M : Type 1} → sta
     (parse-group-add-nodes t)
     (parse-group-loop-less t)
     (parse-group-loop-again t))
+    (λ t. parse-inner-lts.spec (parse-inner-calls t)
+    (parse-inner-at t)
+    parse-inner.Post
+    (parse-inner-returns t)
+    (parse-inner-sub-past t)
+    (parse-inner-past-requires t)
+    (parse-inner-kind-at-requires t)
+    (parse-inner-node-start-requires t)
+    (parse-inner-enum-known-start t)
+    (parse-inner-sub-parse-group t)
+    (parse-inner-part-parse-group-start t)
+    (parse-inner-part-parse-group-end t)
+    (parse-inner-add-parse-group t)
+    (parse-inner-parse-group-requires t)
+    (parse-inner-enum-known-read t)
+    (parse-inner-enum-told t)
+    (parse-inner-same-length t)
+    (parse-inner-returns-2 t)
+    (parse-inner-group-kind-requires t)
+    (parse-inner-put-above-requires t)
+    (parse-inner-enum-told-2 t)
+    (parse-inner-sub-parse-template-arguments t)
+    (parse-inner-part-parse-template-arguments-start t)
+    (parse-inner-part-parse-template-arguments-end t)
+    (parse-inner-add-parse-template-arguments t)
+    (parse-inner-add-parse-template-arguments-2 t)
+    (parse-inner-parse-template-arguments-requires t)
+    (parse-inner-enum-known-tried t)
+    (parse-inner-put-above-requires-2 t)
+    (parse-inner-enum-known-tried-2 t)
+    (parse-inner-past-requires-2 t)
+    (parse-inner-put-above-requires-3 t)
+    (parse-inner-enum-told-3 t)
+    (parse-inner-enum-told-4 t)
+    (parse-inner-parse-token-requires t)
+    (parse-inner-same-length-2 t)
+    (parse-inner-returns-3 t)
+    (parse-inner-same-length-3 t)
+    (parse-inner-returns-4 t)
+    (parse-inner-same-length-4 t)
+    (parse-inner-returns-5 t)
+    (parse-inner-same-length-5 t)
+    (parse-inner-returns-6 t)
+    (parse-inner-same-length-6 t)
+    (parse-inner-returns-7 t))
     (λ t. parse-node-lts.spec (parse-node-calls t)
     (parse-node-at t)
     parse-node.Post
-    (parse-node-returns t)
-    (parse-node-sub-past t)
-    (parse-node-past-requires t)
     (parse-node-kind-at-requires t)
-    (parse-node-node-start-requires t)
-    (parse-node-enum-known-start t)
-    (parse-node-sub-parse-group t)
-    (parse-node-part-parse-group-start t)
-    (parse-node-part-parse-group-end t)
-    (parse-node-add-parse-group t)
-    (parse-node-parse-group-requires t)
-    (parse-node-enum-known-read t)
-    (parse-node-enum-told t)
+    (parse-node-is-plain-requires t)
+    (parse-node-parse-token-requires t)
     (parse-node-same-length t)
-    (parse-node-returns-2 t)
-    (parse-node-group-kind-requires t)
-    (parse-node-put-above-requires t)
-    (parse-node-enum-told-2 t)
-    (parse-node-sub-parse-template-arguments t)
-    (parse-node-part-parse-template-arguments-start t)
-    (parse-node-part-parse-template-arguments-end t)
-    (parse-node-add-parse-template-arguments t)
-    (parse-node-add-parse-template-arguments-2 t)
-    (parse-node-parse-template-arguments-requires t)
-    (parse-node-enum-known-tried t)
-    (parse-node-put-above-requires-2 t)
-    (parse-node-enum-known-tried-2 t)
-    (parse-node-past-requires-2 t)
-    (parse-node-put-above-requires-3 t)
-    (parse-node-enum-told-3 t)
-    (parse-node-enum-told-4 t)
-    (parse-node-put-above-requires-4 t)
+    (parse-node-returns t)
+    (parse-node-parse-inner-requires t)
     (parse-node-same-length-2 t)
-    (parse-node-returns-3 t)
-    (parse-node-same-length-3 t)
-    (parse-node-returns-4 t)
-    (parse-node-same-length-4 t)
-    (parse-node-returns-5 t)
-    (parse-node-same-length-5 t)
-    (parse-node-returns-6 t)
-    (parse-node-same-length-6 t)
-    (parse-node-returns-7 t))
+    (parse-node-returns-2 t))
     λ t. parse-template-arguments-lts.spec (parse-template-arguments-calls t)
     (parse-template-arguments-at t)
     parse-template-arguments.Post
