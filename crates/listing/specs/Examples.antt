@@ -7,7 +7,8 @@ use Rattle.rows.specs.Notation.{_is-one-of_}
 use Rattle.rows.specs.Words.{bytes}
 use Rattle.reader.specs.Nodes.{number}
 use Rattle.text.specs.Text.{decimal, ended, last-digit, last-digits}
-use Rattle.listing.specs.Listing.{listing, accepted-line, refused-line, listed, node-lines, node-line, level, levels-of, stands-below, makes-level, kind-of, token-of, extent-of, letter}
+use Rattle.reader.specs.Standing.{kind-of, token-of, extent-of}
+use Rattle.listing.specs.Listing.{listing, accepted-line, refused-line, listed, node-lines, node-line, level, levels-of, stands-below, makes-level, letter}
 
 -- The tree of `Lane<(Key<8>>2)>`.
 lane : List ℕ

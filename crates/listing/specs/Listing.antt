@@ -8,6 +8,7 @@ use lib.Dec.{eqb, ltb}
 use Rattle.rows.specs.Notation.{if_then_else_, _is-one-of_}
 use Rattle.rows.specs.Words.{bytes}
 use Rattle.reader.specs.Nodes.{number, G-node, B-node, L-node}
+use Rattle.reader.specs.Standing.{kind-of, token-of, extent-of}
 use Rattle.text.specs.Text.{ended}
 
 -- Between the numbers of a line.
@@ -22,18 +23,6 @@ newline = 10
 unfoldable pub letter : ℕ → ℕ
 unfolding bytes
 letter kind = getD (bytes "TGBLA") kind 63
-
--- "Kind" of node record number i.
-unfoldable pub kind-of : List ℕ → ℕ → ℕ
-kind-of tree i = getD tree (3 * i) 0
-
--- "Token number" of it.
-unfoldable pub token-of : List ℕ → ℕ → ℕ
-token-of tree i = getD tree (3 * i + 1) 0
-
--- "Extent" of it.
-unfoldable pub extent-of : List ℕ → ℕ → ℕ
-extent-of tree i = getD tree (3 * i + 2) 0
 
 -- "Level and nesting count G, B and L, not A."
 unfoldable pub makes-level : ℕ → Bool

@@ -13,7 +13,8 @@ use borrow.Author.Tests.{eq-eqb, ne-eqb}
 use Rattle.rows.specs.Words.{bytes}
 use Rattle.text.specs.Text.{Appended, ended}
 use Rattle.text.specs.Laws.Appending.{appended-as, appended-then, appended-none, ended-long}
-use Rattle.listing.specs.Listing.{level, levels-of, stands-below, makes-level, kind-of, token-of, extent-of, letter, node-line, node-lines, accepted-line, refused-line, listed, listing, space, newline}
+use Rattle.reader.specs.Standing.{kind-of, token-of, extent-of}
+use Rattle.listing.specs.Listing.{level, levels-of, stands-below, makes-level, letter, node-line, node-lines, accepted-line, refused-line, listed, listing, space, newline}
 
 -- ---- kinds
 

@@ -3,7 +3,7 @@ use Prim.Native.Nat.{_+_, _*_}
 use mathlib.Core.Path.{refl, _∙_, sym}
 use native.Mathlib.Omega.{arith}
 use borrow.Author.Needs.{needs}
-use Rattle.listing.specs.Listing.{kind-of, extent-of}
+use Rattle.reader.specs.Standing.{kind-of, extent-of}
 use Rattle.listing.specs.Laws.Lines.{below-yes, below-no}
 use borrow.Author.Needs.{needs}
 use Rattle.listing.proofs.level.stands_below.Statement.{statement}

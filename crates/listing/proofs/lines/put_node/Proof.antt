@@ -4,7 +4,8 @@ use lib.ListN.{getD}
 use native.Mathlib.Omega.{arith}
 use borrow.Author.Needs.{needs}
 use Rattle.text.specs.Laws.Appending.{appended-then, appended-as, ended-long}
-use Rattle.listing.specs.Listing.{kind-of, token-of, extent-of, space}
+use Rattle.reader.specs.Standing.{kind-of, token-of, extent-of}
+use Rattle.listing.specs.Listing.{space}
 use Rattle.listing.specs.Laws.Lines.{node-pieces}
 use borrow.Author.Needs.{needs}
 use Rattle.listing.proofs.lines.put_node.Statement.{statement}
