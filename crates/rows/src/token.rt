@@ -30,21 +30,18 @@ pub enum TokenRecord {
     Malformed,
 }
 
-// Every byte may stand in a word.
+// Every byte may stand in a word. All are tested, even behind one that may not: so the compiler tests many at once.
 fn is_word(word: &[u8]) -> bool
     ensures { λ r. ⌜ r ≡ in-range (now (word .entry)) ⌝ }
 {
+    let mut fits = true;
     let mut i = 0;
     while i < word.len() {
-        if word[i] < LEAST_WORD_BYTE {
-            return false;
-        }
-        if GREATEST_WORD_BYTE < word[i] {
-            return false;
-        }
+        let byte = word[i];
+        fits = fits & (LEAST_WORD_BYTE <= byte) & (byte <= GREATEST_WORD_BYTE);
         i += 1;
     }
-    true
+    fits
 }
 
 // The record at a byte offset has a word of 1 to 255 bytes that are in range; `size` is its length.

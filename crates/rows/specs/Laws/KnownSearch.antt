@@ -10,6 +10,7 @@ use borrow.Author.Tests.{eqb-true, eqb-false, ne-eqb}
 use mir.Facts.{and-yes}
 use lib.ListN.{length, getD, take, drop, length-map, List·getD-map}
 use lib.Dec.{T, leb, ltb, eqb, leb→le}
+use Rattle.rows.specs.Laws.Tests.{and-false}
 use Rattle.rows.specs.Notation.{if_then_else_}
 use Rattle.rows.specs.Words.{Known, known, bytes, same-through, same-exactly, same-ignoring-case, lower, number-among, word-number, no-word, other-case}
 use Rattle.rows.specs.Laws.KnownWords.{compared, byte-differs, nothing-yet, start, of-length, groups, ordered, spellings, texts, texts-long}
@@ -18,10 +19,6 @@ use Rattle.rows.specs.declared.words.Comparison.{Comparison}
 use Rattle.rows.specs.declared.words.Comparison.the-variants.{Exact, OtherCase, Different}
 
 -- ---- words of another length are not the same
-
-and-false : (b : Bool) → (b && false) ≡ false
-and-false true = refl
-and-false false = refl
 
 lengths-differ : (fold : ℕ → ℕ) (w v : List ℕ) → (length w ≡ length v → ⊥) → same-through fold w v ≡ false
 unfolding same-through

@@ -11,6 +11,7 @@ use lib.Dec.{T, leb, ltb, eqb}
 use lib.Seq.{drop-cons, length-take-le, getD-take, getD-drop}
 use native.Mathlib.Numerals.{add-one}
 use borrow.Author.Tests.{eq-eqb, ne-eqb}
+use Rattle.rows.specs.Laws.Tests.{and-true, and-false}
 use Rattle.rows.specs.Notation.{if_then_else_}
 use Rattle.rows.specs.Words.{Known, known, bytes, same-through, same-exactly, same-ignoring-case, lower, number-among, word-number, no-word, other-case}
 use Rattle.rows.specs.declared.words.Comparison.{Comparison}
@@ -78,14 +79,6 @@ through-at fold w v i p q = rw (drop-cons w i 0 p, drop-cons v i 0 q, add-one) r
 -- bytes that differ in lower case differ
 lower-differs : (b c : ℕ) → (lower b ≡ lower c → ⊥) → eqb b c ≡ false
 lower-differs b c d = ne-eqb b c (λ e. d (ap lower e))
-
-and-false : (b : Bool) → (b && false) ≡ false
-and-false true = refl
-and-false false = refl
-
-and-true : (b : Bool) → (b && true) ≡ b
-and-true true = refl
-and-true false = refl
 
 and-assoc : (a b c : Bool) → (a && (b && c)) ≡ (a && b && c)
 and-assoc true b c = refl

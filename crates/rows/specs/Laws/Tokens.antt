@@ -16,29 +16,28 @@ use Rattle.rows.specs.Notation.{if_then_else_}
 use Rattle.rows.specs.Kinds.{Identifier, End}
 use Rattle.rows.specs.Format.{Format, token-length, longest-word, least-word-byte, greatest-word-byte}
 use Rattle.rows.specs.Records.{in-range, length-at, kind-at, span-start-at, span-end-at, word-at, word-fits, length-fits, well-formed, found, word-in}
-use Rattle.rows.specs.Laws.Tests.{by-if}
+use Rattle.rows.specs.Laws.Tests.{by-if, and-true}
 use Rattle.rows.specs.declared.token.TokenRecord.{TokenRecord}
 use Rattle.rows.specs.declared.token.TokenRecord.the-variants.{Formed, Malformed}
 
--- ---- a word, of which the first i bytes are in range
+-- ---- a word: `fits` of its first i bytes
 
-module _ (w : List ℕ) (i : ℕ) (so-far : in-range w ≡ in-range (drop i w)) where
-  in-range-at : i < length w → in-range w ≡ (leb least-word-byte (getD w i 0) && leb (getD w i 0) greatest-word-byte && in-range (drop (i + 1) w))
+and-regrouped : (a b c d : Bool) → (((a && b) && c) && d) ≡ (a && (b && c && d))
+and-regrouped true true true d = refl
+and-regrouped true true false d = refl
+and-regrouped true false c d = refl
+and-regrouped false b c d = refl
+
+module _ (w : List ℕ) (i : ℕ) (fits : Bool) {total : Bool} (so-far : (fits && in-range (drop i w)) ≡ total) where
+  pub one-more : i < length w → (((fits && leb least-word-byte (getD w i 0)) && leb (getD w i 0) greatest-word-byte) && in-range (drop (i + 1) w)) ≡ total
   unfolding in-range
-  in-range-at h = so-far ∙ rw (drop-cons w i 0 h, add-one) refl
+  one-more h =
+      and-regrouped fits (leb least-word-byte (getD w i 0)) (leb (getD w i 0) greatest-word-byte) (in-range (drop (i + 1) w))
+      ∙ rw (add-one i) (rw (drop-cons w i 0 h) at so-far)
 
-  pub too-low : i < length w → getD w i 0 < least-word-byte → false ≡ in-range w
-  too-low h low = sym (in-range-at h ∙ rw (lt-leb least-word-byte (getD w i 0) low) refl)
-
-  pub too-high : i < length w → least-word-byte ≤ getD w i 0 → greatest-word-byte < getD w i 0 → false ≡ in-range w
-  too-high h low high = sym (in-range-at h ∙ rw (le-leb least-word-byte (getD w i 0) low, lt-leb (getD w i 0) greatest-word-byte high) refl)
-
-  pub one-more : i < length w → least-word-byte ≤ getD w i 0 → getD w i 0 ≤ greatest-word-byte → in-range w ≡ in-range (drop (i + 1) w)
-  one-more h low high = in-range-at h ∙ rw (le-leb least-word-byte (getD w i 0) low, le-leb (getD w i 0) greatest-word-byte high) refl
-
-  pub no-more : length w ≤ i → true ≡ in-range w
+  pub no-more : length w ≤ i → fits ≡ total
   unfolding in-range
-  no-more h = sym (so-far ∙ rw (drop-of-length-le w h) refl)
+  no-more h = sym (and-true fits) ∙ rw (drop-of-length-le w {i = i} h) at so-far
 
 -- ---- a record of length n and kind k, test by test
 

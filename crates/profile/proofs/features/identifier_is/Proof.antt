@@ -3,7 +3,7 @@ use native.Mathlib.Omega.{arith}
 use borrow.Author.Needs.{needs}
 use borrow.Author.Tests.{eq-eqb, ne-eqb}
 use Rattle.profile.specs.Profile.{identifier-is}
-use Rattle.profile.specs.Laws.SomeToken.{and-false, and-true}
+use Rattle.rows.specs.Laws.Tests.{and-false, and-true}
 use borrow.Author.Needs.{needs}
 use Rattle.profile.proofs.features.identifier_is.Statement.{statement}
 use Rattle.profile.proofs.features.identifier_is.Tie as tie
