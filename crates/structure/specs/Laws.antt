@@ -13,7 +13,6 @@ pub mod Runs
 pub mod Parts
 pub mod Checks
 pub mod Inside
-pub mod Asked
 pub mod Trees
 pub mod SpecifierTables
 pub mod SpecifierLoop

@@ -31,7 +31,6 @@ test-of I.TypeOrExpression = type-or-expression
 test-of I.ArrayBound = array-bound
 test-of I.Declarator = declarator
 test-of I.Arguments = arguments
-test-of I.Selectors = selectors
 test-of (I.DeclaratorOrParameters word) = declarator-or-parameters word
 
 -- The variables of `validate_c_family_type`.
@@ -72,7 +71,7 @@ expression-move-of (E.Inside t st) = inside (test-of t) (expression-state-of st)
 abbrev pub fortran-move-of : FortranMove → Move FortranState
 fortran-move-of (F.Stop r) = stop r
 fortran-move-of (F.On st) = on (fortran-state-of st)
-fortran-move-of (F.Inside t st) = inside (test-of t) (fortran-state-of st)
+fortran-move-of (F.Inside st) = inside selectors (fortran-state-of st)
 
 -- At most n `?` wait for their `:`.
 abbrev pub Waits : ℕ → ExpressionMove → Type 0

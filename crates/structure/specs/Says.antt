@@ -3,9 +3,7 @@ use Prim.Native.Nat.{ℕ}
 use mathlib.Core.Path.{_≡_}
 use mathlib.Core.List.{List}
 use Rattle.reader.specs.Nodes.{Nodes}
-use mathlib.Core.Bool.{Bool, true, false}
-use Rattle.structure.specs.Moves.{Said, Test, type-name, expression, some-expression, optional-expression, type-or-expression, array-bound, declarator}
-use Rattle.structure.specs.Moves.{arguments, selectors, declarator-or-parameters}
+use Rattle.structure.specs.Moves.{Said, Test}
 use Rattle.structure.specs.Structure.{Job, checked, test}
 use Rattle.structure.specs.Stands.{Stands}
 use Rattle.structure.specs.Allowance.{limited}
@@ -23,16 +21,3 @@ Answers what lang tree kinds words from to left r = Says tree kinds from to left
 -- And of the test t.
 abbrev pub Passes : (lang : ℕ) (tree kinds words : List ℕ) (from to left : ℕ) → Test → Verdict → Type 0
 Passes lang tree kinds words from to left t r = Says tree kinds from to left (test lang kinds words (checked lang kinds words) t) r
-
--- It is asked in types of Fortran, and there alone.
-abbrev pub for-fortran : Test → Bool
-for-fortran type-name = false
-for-fortran expression = false
-for-fortran some-expression = false
-for-fortran optional-expression = false
-for-fortran type-or-expression = false
-for-fortran array-bound = false
-for-fortran declarator = false
-for-fortran arguments = false
-for-fortran selectors = true
-for-fortran (declarator-or-parameters word) = false

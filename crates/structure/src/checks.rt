@@ -27,14 +27,12 @@ use crate::tables::abstract_declarator_node;
 use crate::tables::c_family_node;
 use rows::kinds::STAR;
 use rows::word_numbers::NO_WORD;
-ghost use mathlib.Core.Path.{_≡_};
-ghost use mathlib.Core.Bool.{false};
 ghost use Rattle.structure.specs.Moves.{type-or-expression, arguments};
 ghost use Rattle.structure.specs.Structure.{a-type, a-declarator, an-expression, checked, validate-cpp-template-argument, validate-parameter};
 ghost use Rattle.structure.specs.Structure.{validate-parameter-type-list};
 ghost use Rattle.structure.specs.Represented.{test-of};
 ghost use Rattle.structure.specs.Stands.{Ready};
-ghost use Rattle.structure.specs.Says.{Says, Answers, Passes, for-fortran};
+ghost use Rattle.structure.specs.Says.{Says, Answers, Passes};
 
 pub fn validate_c_family_type(
     language: u8,
@@ -203,7 +201,7 @@ pub fn validate_expression(
     plain(expression_end(st), left)
 }
 
-// What is asked of the nodes below a node. Selectors are asked of in Fortran's types alone, and not here.
+// What is asked of the nodes below a node.
 fn test(
     language: u8,
     tree: &[u32],
@@ -214,7 +212,7 @@ fn test(
     to: usize,
     allowed: usize,
 ) -> Verdict
-    requires { ⌜ (for-fortran (test-of inner) ≡ false) × Ready (now tree) (now kinds) (now words) from to ⌝ }
+    requires { ⌜ Ready (now tree) (now kinds) (now words) from to ⌝ }
     ensures { λ r. ⌜ Passes language (now (tree .entry)) (now (kinds .entry)) (now (words .entry)) from to allowed (test-of inner) r ⌝ }
 {
     match inner {
@@ -250,7 +248,6 @@ fn test(
             return validate_abstract_declarator(language, tree, kinds, words, from, to, allowed);
         }
         Inner::Arguments => return arguments(language, tree, kinds, words, from, to, allowed),
-        Inner::Selectors => return Verdict::Spent,
         Inner::DeclaratorOrParameters(word) => {
             if looks_like_abstract_declarator(tree, kinds, from, to) {
                 return validate_abstract_declarator(

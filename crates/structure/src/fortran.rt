@@ -2,7 +2,6 @@
 
 use crate::moves::FortranLoop;
 use crate::moves::FortranMove;
-use crate::moves::Inner;
 use crate::moves::Verdict;
 use crate::moves::plain;
 use crate::nodes::Lookup;
@@ -40,13 +39,10 @@ pub fn fortran_node(shape: u8, last: bool, st: FortranLoop) -> FortranMove
         });
     }
     if (shape == PARENTHESIZED) & word & !selector {
-        return FortranMove::Inside(
-            Inner::Selectors,
-            FortranLoop {
-                word,
-                selector: true,
-            },
-        );
+        return FortranMove::Inside(FortranLoop {
+            word,
+            selector: true,
+        });
     }
     if (shape == STAR) & word & last {
         return FortranMove::Stop(true);
@@ -129,7 +125,7 @@ pub fn validate_fortran_type(
             FortranMove::On(next) => {
                 st = next;
             }
-            FortranMove::Inside(_, next) => {
+            FortranMove::Inside(next) => {
                 let said = validate_fortran_selector_list(
                     language,
                     tree,

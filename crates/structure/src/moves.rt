@@ -24,7 +24,6 @@ pub enum Inner {
     ArrayBound,
     Declarator,
     Arguments,
-    Selectors,
     DeclaratorOrParameters(bool),
 }
 
@@ -72,10 +71,11 @@ pub enum ExpressionMove {
     Inside(Inner, ExpressionLoop),
 }
 
+// Below a node Fortran's types ask of selectors alone.
 pub enum FortranMove {
     Stop(bool),
     On(FortranLoop),
-    Inside(Inner, FortranLoop),
+    Inside(FortranLoop),
 }
 
 // A condition, tested without a step.

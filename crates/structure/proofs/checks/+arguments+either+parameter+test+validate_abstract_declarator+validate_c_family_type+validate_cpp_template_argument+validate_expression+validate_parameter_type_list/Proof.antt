@@ -16,7 +16,6 @@ use Rattle.structure.specs.Laws.Walks.{walk-start, walk-formed, walk-sto
 use Rattle.structure.specs.Laws.Runs.{entry-spent, entry, head-fails, head-holds, run-start, run-end, run-stop, run-on, run-stops, run-inside}
 use Rattle.structure.specs.Laws.Checks.{InType, InDeclarator, InExpression, type-entry, declarator-entry, expression-entry, no-word-before, type-moved}
 use Rattle.structure.specs.Laws.Checks.{declarator-moved, expression-moved, waits-on, waits-inside}
-use Rattle.structure.specs.Laws.Asked.{asked, type-asks, declarator-asks, expression-asks, not-selectors}
 use Rattle.structure.specs.Laws.Inside.{empty-of, full-of, no-node, some-node, no-bound, bound-of, by-name, either-held, either-else, both-failed, both-then}
 use Rattle.structure.specs.Laws.Inside.{first-settles, then-second, told, inside-declarator, group-declarator, group-parameters, parameters-start}
 use Rattle.structure.specs.Laws.Parts.{InParts, InArguments, parts-past, parts-fit, parts-ready, parts-comma, parts-turn, parts-last, parts-next, arguments-end}
@@ -289,7 +288,7 @@ test-enum-told : (t : ℕ) → test-lts.Need-enum-told (test-calls t) (test-at t
 test-enum-told t c = search needs
 
 test-validate-c-family-type-requires : (t : ℕ) → test-lts.Need-validate-c-family-type-requires (test-calls t) (test-at t) test.Post
-test-validate-c-family-type-requires t c κs = (omega (arith, c .before .before .before .before .before .pre .0), c .before .before .before .before .before .pre .1 .1)
+test-validate-c-family-type-requires t c κs = (omega (arith, c .before .before .before .before .before .pre .0), c .before .before .before .before .before .pre .1)
 
 test-returns : (t : ℕ) → test-lts.Need-returns (test-calls t) (test-at t) test.Post
 unfolding test
@@ -299,7 +298,7 @@ test-enum-told-2 : (t : ℕ) → test-lts.Need-enum-told-2 (test-calls t) (test-
 test-enum-told-2 t c = search needs
 
 test-validate-expression-requires : (t : ℕ) → test-lts.Need-validate-expression-requires (test-calls t) (test-at t) test.Post
-test-validate-expression-requires t c κs = (omega (arith, c .before .before .before .before .before .pre .0), c .before .before .before .before .before .pre .1 .1)
+test-validate-expression-requires t c κs = (omega (arith, c .before .before .before .before .before .pre .0), c .before .before .before .before .before .pre .1)
 
 test-returns-2 : (t : ℕ) → test-lts.Need-returns-2 (test-calls t) (test-at t) test.Post
 unfolding test
@@ -313,7 +312,7 @@ unfolding test
 test-returns-3 t c = told _ _ (c .before .enum-told3 .given .1) (both-failed _ _ (λ x. refl) (no-node (c .if1 .taken)))
 
 test-validate-expression-requires-2 : (t : ℕ) → test-lts.Need-validate-expression-requires-2 (test-calls t) (test-at t) test.Post
-test-validate-expression-requires-2 t c κs = (omega (arith, c .before .before .before .before .before .before .pre .0), c .before .before .before .before .before .before .pre .1 .1)
+test-validate-expression-requires-2 t c κs = (omega (arith, c .before .before .before .before .before .before .pre .0), c .before .before .before .before .before .before .pre .1)
 
 test-returns-4 : (t : ℕ) → test-lts.Need-returns-4 (test-calls t) (test-at t) test.Post
 unfolding test
@@ -327,7 +326,7 @@ unfolding test
 test-returns-5 t c = told _ _ (c .before .enum-told4 .given .1) (either-held _ _ (λ x. refl) (empty-of (c .if2 .taken)))
 
 test-validate-expression-requires-3 : (t : ℕ) → test-lts.Need-validate-expression-requires-3 (test-calls t) (test-at t) test.Post
-test-validate-expression-requires-3 t c κs = (omega (arith, c .before .before .before .before .before .before .pre .0), c .before .before .before .before .before .before .pre .1 .1)
+test-validate-expression-requires-3 t c κs = (omega (arith, c .before .before .before .before .before .before .pre .0), c .before .before .before .before .before .before .pre .1)
 
 test-returns-6 : (t : ℕ) → test-lts.Need-returns-6 (test-calls t) (test-at t) test.Post
 unfolding test
@@ -337,7 +336,7 @@ test-enum-told-5 : (t : ℕ) → test-lts.Need-enum-told-5 (test-calls t) (test-
 test-enum-told-5 t c = search needs
 
 test-either-requires : (t : ℕ) → test-lts.Need-either-requires (test-calls t) (test-at t) test.Post
-test-either-requires t c κs = (omega (arith, c .before .before .before .before .before .pre .0), c .before .before .before .before .before .pre .1 .1)
+test-either-requires t c κs = (omega (arith, c .before .before .before .before .before .pre .0), c .before .before .before .before .before .pre .1)
 
 test-returns-7 : (t : ℕ) → test-lts.Need-returns-7 (test-calls t) (test-at t) test.Post
 test-returns-7 t c = told _ _ (c .before .enum-told5 .given .1) (c .either .ensures)
@@ -350,14 +349,14 @@ unfolding test
 test-returns-8 t c = told _ _ (c .before .enum-told6 .given .1) (either-held _ _ (λ x. refl) (no-bound (c .if3 .taken)))
 
 test-is-single-token-requires : (t : ℕ) → test-lts.Need-is-single-token-requires (test-calls t) (test-at t) test.Post
-test-is-single-token-requires t c κs = (omega arith, c .before .before .before .before .before .before .pre .1 .1 .formed)
+test-is-single-token-requires t c κs = (omega arith, c .before .before .before .before .before .before .pre .1 .formed)
 
 test-returns-9 : (t : ℕ) → test-lts.Need-returns-9 (test-calls t) (test-at t) test.Post
 unfolding test
 test-returns-9 t c = told _ _ (c .before .before .before .enum-told6 .given .1) (either-held _ _ (λ x. refl) (bound-of (c .before .before .if3 .left) (c .before .is-single-token .ensures) (c .if4 .taken)))
 
 test-validate-expression-requires-4 : (t : ℕ) → test-lts.Need-validate-expression-requires-4 (test-calls t) (test-at t) test.Post
-test-validate-expression-requires-4 t c κs = (omega (arith, c .before .before .before .before .before .before .before .before .pre .0), c .before .before .before .before .before .before .before .before .pre .1 .1)
+test-validate-expression-requires-4 t c κs = (omega (arith, c .before .before .before .before .before .before .before .before .pre .0), c .before .before .before .before .before .before .before .before .pre .1)
 
 test-returns-10 : (t : ℕ) → test-lts.Need-returns-10 (test-calls t) (test-at t) test.Post
 unfolding test
@@ -368,7 +367,7 @@ test-enum-told-7 t c = search needs
 
 test-validate-abstract-declarator-requires :
     (t : ℕ) → test-lts.Need-validate-abstract-declarator-requires (test-calls t) (test-at t) test.Post
-test-validate-abstract-declarator-requires t c κs = (omega (arith, c .before .before .before .before .before .pre .0), c .before .before .before .before .before .pre .1 .1)
+test-validate-abstract-declarator-requires t c κs = (omega (arith, c .before .before .before .before .before .pre .0), c .before .before .before .before .before .pre .1)
 
 test-returns-11 : (t : ℕ) → test-lts.Need-returns-11 (test-calls t) (test-at t) test.Post
 test-returns-11 t c = told _ _ (c .before .enum-told7 .given .1) (inside-declarator _ _ (c .validate-abstract-declarator .ensures))
@@ -377,40 +376,34 @@ test-enum-told-8 : (t : ℕ) → test-lts.Need-enum-told-8 (test-calls t) (test-
 test-enum-told-8 t c = search needs
 
 test-arguments-requires : (t : ℕ) → test-lts.Need-arguments-requires (test-calls t) (test-at t) test.Post
-test-arguments-requires t c κs = (omega (arith, c .before .before .before .before .before .pre .0), c .before .before .before .before .before .pre .1 .1)
+test-arguments-requires t c κs = (omega (arith, c .before .before .before .before .before .pre .0), c .before .before .before .before .before .pre .1)
 
 test-returns-12 : (t : ℕ) → test-lts.Need-returns-12 (test-calls t) (test-at t) test.Post
 test-returns-12 t c = told _ _ (c .before .enum-told8 .given .1) (c .arguments .ensures)
-
-test-enum-told-9 : (t : ℕ) → test-lts.Need-enum-told-9 (test-calls t) (test-at t) test.Post
-test-enum-told-9 t c = search needs
-
-test-returns-13 : (t : ℕ) → test-lts.Need-returns-13 (test-calls t) (test-at t) test.Post
-test-returns-13 t c = absurd (not-selectors (c .enum-told9 .given .1) (c .before .before .before .before .before .pre .1 .0))
 
 test-enum-known-inner : (t : ℕ) → test-lts.Need-enum-known-inner (test-calls t) (test-at t) test.Post
 test-enum-known-inner t c = search needs
 
 test-looks-like-abstract-declarator-requires :
     (t : ℕ) → test-lts.Need-looks-like-abstract-declarator-requires (test-calls t) (test-at t) test.Post
-test-looks-like-abstract-declarator-requires t c κs = c .before .before .before .before .before .before .pre .1 .1 .formed
+test-looks-like-abstract-declarator-requires t c κs = c .before .before .before .before .before .before .pre .1 .formed
 
 test-validate-abstract-declarator-requires-2 :
     (t : ℕ) → test-lts.Need-validate-abstract-declarator-requires-2 (test-calls t) (test-at t) test.Post
-test-validate-abstract-declarator-requires-2 t c κs = (omega (arith, c .before .before .before .before .before .before .before .before .pre .0), c .before .before .before .before .before .before .before .before .pre .1 .1)
+test-validate-abstract-declarator-requires-2 t c κs = (omega (arith, c .before .before .before .before .before .before .before .before .pre .0), c .before .before .before .before .before .before .before .before .pre .1)
+
+test-returns-13 : (t : ℕ) → test-lts.Need-returns-13 (test-calls t) (test-at t) test.Post
+test-returns-13 t c = told _ _ (c .before .before .before .before .inner .given .1) (group-declarator _ _ _ (c .before .before .looks-like-abstract-declarator .ensures) (c .before .if5 .taken) (c .validate-abstract-declarator2 .ensures))
 
 test-returns-14 : (t : ℕ) → test-lts.Need-returns-14 (test-calls t) (test-at t) test.Post
-test-returns-14 t c = told _ _ (c .before .before .before .before .inner .given .1) (group-declarator _ _ _ (c .before .before .looks-like-abstract-declarator .ensures) (c .before .if5 .taken) (c .validate-abstract-declarator2 .ensures))
-
-test-returns-15 : (t : ℕ) → test-lts.Need-returns-15 (test-calls t) (test-at t) test.Post
-test-returns-15 t c = told _ _ (c .before .before .before .before .inner .given .1) (group-parameters _ _ _ (c .before .before .looks-like-abstract-declarator .ensures) (c .before .if5 .left) (both-failed _ _ (λ x. refl) (λ x s. sym (not-true _ (c .if6 .taken)))))
+test-returns-14 t c = told _ _ (c .before .before .before .before .inner .given .1) (group-parameters _ _ _ (c .before .before .looks-like-abstract-declarator .ensures) (c .before .if5 .left) (both-failed _ _ (λ x. refl) (λ x s. sym (not-true _ (c .if6 .taken)))))
 
 test-validate-parameter-type-list-requires :
     (t : ℕ) → test-lts.Need-validate-parameter-type-list-requires (test-calls t) (test-at t) test.Post
-test-validate-parameter-type-list-requires t c κs = (omega (arith, c .before .before .before .before .before .before .before .before .before .pre .0), c .before .before .before .before .before .before .before .before .before .pre .1 .1)
+test-validate-parameter-type-list-requires t c κs = (omega (arith, c .before .before .before .before .before .before .before .before .before .pre .0), c .before .before .before .before .before .before .before .before .before .pre .1)
 
-test-returns-16 : (t : ℕ) → test-lts.Need-returns-16 (test-calls t) (test-at t) test.Post
-test-returns-16 t c = told _ _ (c .before .before .before .before .before .inner .given .1) (group-parameters _ _ _ (c .before .before .before .looks-like-abstract-declarator .ensures) (c .before .before .if5 .left) (both-then _ _ (λ x. refl) (λ x s. sym (not-false _ (c .before .if6 .left))) (c .validate-parameter-type-list .ensures)))
+test-returns-15 : (t : ℕ) → test-lts.Need-returns-15 (test-calls t) (test-at t) test.Post
+test-returns-15 t c = told _ _ (c .before .before .before .before .before .inner .given .1) (group-parameters _ _ _ (c .before .before .before .looks-like-abstract-declarator .ensures) (c .before .before .if5 .left) (both-then _ _ (λ x. refl) (λ x s. sym (not-false _ (c .before .if6 .left))) (c .validate-parameter-type-list .ensures)))
 
 abbrev validate-abstract-declarator-Inv-loop : validate-abstract-declarator-lts.InvT-loop
 validate-abstract-declarator-Inv-loop language tree kinds words from to allowed left₀ before₀ st₀ at₀ left before st at = InDeclarator language tree kinds words from to allowed left st before at
@@ -573,7 +566,7 @@ validate-abstract-declarator-test-requires :
     validate-abstract-declarator.Post
     validate-abstract-declarator-Inv-loop
     validate-abstract-declarator-μ-loop
-validate-abstract-declarator-test-requires t c κs = (omega (arith, walk-further (c .before .before .before .before .before .before .before .before .before .before .loop .inv .walk) (omega arith) (c .before .before .before .before .before .before .node-end .ensures), walk-fits (c .before .before .before .before .before .before .before .before .before .before .loop .inv .walk) (omega arith) (c .before .before .before .before .before .before .node-end .ensures), c .before .before .before .before .before .before .before .before .before .before .loop .inv .walk .past, c .before .before .before .before .before .before .before .before .before .before .before .before .before .before .before .pre .0), (asked (declarator-asks _ _ _ _ _ _) (declarator-moved (c .before .before .before .before .before .before .before .before .before .before .loop .inv) (omega arith) (c .before .before .before .before .before .before .before .before .shape-at .ensures) (c .before .before .before .before .before .before .before .exact-word .ensures) (c .before .before .before .before .before .before .node-end .ensures) (c .before .before .before .before .before .shape-at2 .ensures) (c .before .before .before .before .abstract-declarator-node .ensures) (c .before .before .act3 .given .1)), walk-below (c .before .before .before .before .before .before .before .before .before .before .loop .inv .walk) (omega arith) (c .before .before .before .before .before .before .node-end .ensures) (c .before .before .before .before .before .before .before .before .before .before .before .before .before .before .before .pre .1 .worded)))
+validate-abstract-declarator-test-requires t c κs = (omega (arith, walk-further (c .before .before .before .before .before .before .before .before .before .before .loop .inv .walk) (omega arith) (c .before .before .before .before .before .before .node-end .ensures), walk-fits (c .before .before .before .before .before .before .before .before .before .before .loop .inv .walk) (omega arith) (c .before .before .before .before .before .before .node-end .ensures), c .before .before .before .before .before .before .before .before .before .before .loop .inv .walk .past, c .before .before .before .before .before .before .before .before .before .before .before .before .before .before .before .pre .0), walk-below (c .before .before .before .before .before .before .before .before .before .before .loop .inv .walk) (omega arith) (c .before .before .before .before .before .before .node-end .ensures) (c .before .before .before .before .before .before .before .before .before .before .before .before .before .before .before .pre .1 .worded))
 
 validate-abstract-declarator-enum-known-said-2 :
     (t : ℕ) → validate-abstract-declarator-lts.Need-enum-known-said-2 (validate-abstract-declarator-calls t)
@@ -787,7 +780,7 @@ validate-c-family-type-test-requires : (t : ℕ) → validate-c-family-type-lts.
     validate-c-family-type.Post
     validate-c-family-type-Inv-loop
     validate-c-family-type-μ-loop
-validate-c-family-type-test-requires t c κs = (omega (arith, walk-further (c .before .before .before .before .before .before .before .before .before .loop .inv .walk) (omega arith) (c .before .before .before .before .before .node-end .ensures), walk-fits (c .before .before .before .before .before .before .before .before .before .loop .inv .walk) (omega arith) (c .before .before .before .before .before .node-end .ensures), c .before .before .before .before .before .before .before .before .before .loop .inv .walk .past, c .before .before .before .before .before .before .before .before .before .before .before .before .before .before .before .before .pre .0), (asked (type-asks _ _ _ _ _ _ _) (type-moved (c .before .before .before .before .before .before .before .before .before .loop .inv) (omega arith) (c .before .before .before .before .before .before .before .shape-at .ensures) (c .before .before .before .before .before .before .exact-word .ensures) (c .before .before .before .before .before .node-end .ensures) (c .before .before .before .before .shape-at2 .ensures) (c .before .before .before .c-family-node .ensures) (c .before .act3 .given .1)), walk-below (c .before .before .before .before .before .before .before .before .before .loop .inv .walk) (omega arith) (c .before .before .before .before .before .node-end .ensures) (c .before .before .before .before .before .before .before .before .before .before .before .before .before .before .before .before .pre .1 .worded)))
+validate-c-family-type-test-requires t c κs = (omega (arith, walk-further (c .before .before .before .before .before .before .before .before .before .loop .inv .walk) (omega arith) (c .before .before .before .before .before .node-end .ensures), walk-fits (c .before .before .before .before .before .before .before .before .before .loop .inv .walk) (omega arith) (c .before .before .before .before .before .node-end .ensures), c .before .before .before .before .before .before .before .before .before .loop .inv .walk .past, c .before .before .before .before .before .before .before .before .before .before .before .before .before .before .before .before .pre .0), walk-below (c .before .before .before .before .before .before .before .before .before .loop .inv .walk) (omega arith) (c .before .before .before .before .before .node-end .ensures) (c .before .before .before .before .before .before .before .before .before .before .before .before .before .before .before .before .pre .1 .worded))
 
 validate-c-family-type-enum-known-said : (t : ℕ) → validate-c-family-type-lts.Need-enum-known-said (validate-c-family-type-calls t)
     (validate-c-family-type-at t)
@@ -965,7 +958,7 @@ validate-expression-test-requires : (t : ℕ) → validate-expression-lts.Need-t
     validate-expression.Post
     validate-expression-Inv-loop
     validate-expression-μ-loop
-validate-expression-test-requires t c κs = (omega (arith, walk-further (c .before .before .before .before .before .before .before .loop .inv .walk) (omega arith) (c .before .before .before .before .node-end .ensures), walk-fits (c .before .before .before .before .before .before .before .loop .inv .walk) (omega arith) (c .before .before .before .before .node-end .ensures), c .before .before .before .before .before .before .before .loop .inv .walk .past, c .before .before .before .before .before .before .before .before .before .before .before .before .pre .0), (asked (expression-asks _ _ _) (expression-moved (c .before .before .before .before .before .before .before .loop .inv) (c .before .before .before .before .before .shape-at .ensures) (c .before .before .before .expression-node .ensures) (c .before .act3 .given .1)), walk-below (c .before .before .before .before .before .before .before .loop .inv .walk) (omega arith) (c .before .before .before .before .node-end .ensures) (c .before .before .before .before .before .before .before .before .before .before .before .before .pre .1 .worded)))
+validate-expression-test-requires t c κs = (omega (arith, walk-further (c .before .before .before .before .before .before .before .loop .inv .walk) (omega arith) (c .before .before .before .before .node-end .ensures), walk-fits (c .before .before .before .before .before .before .before .loop .inv .walk) (omega arith) (c .before .before .before .before .node-end .ensures), c .before .before .before .before .before .before .before .loop .inv .walk .past, c .before .before .before .before .before .before .before .before .before .before .before .before .pre .0), walk-below (c .before .before .before .before .before .before .before .loop .inv .walk) (omega arith) (c .before .before .before .before .node-end .ensures) (c .before .before .before .before .before .before .before .before .before .before .before .before .pre .1 .worded))
 
 validate-expression-enum-known-said : (t : ℕ) → validate-expression-lts.Need-enum-known-said (validate-expression-calls t)
     (validate-expression-at t)
@@ -1207,15 +1200,13 @@ pub +arguments+either+parameter+test+validate-abstract-declarator+validate-c-fam
     (test-enum-told-8 t)
     (test-arguments-requires t)
     (test-returns-12 t)
-    (test-enum-told-9 t)
-    (test-returns-13 t)
     (test-enum-known-inner t)
     (test-looks-like-abstract-declarator-requires t)
     (test-validate-abstract-declarator-requires-2 t)
+    (test-returns-13 t)
     (test-returns-14 t)
-    (test-returns-15 t)
     (test-validate-parameter-type-list-requires t)
-    (test-returns-16 t))
+    (test-returns-15 t))
     (λ t. validate-abstract-declarator-lts.spec (validate-abstract-declarator-calls t)
     (validate-abstract-declarator-at t)
     validate-abstract-declarator.Post

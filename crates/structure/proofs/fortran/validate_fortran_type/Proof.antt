@@ -10,7 +10,8 @@ use Rattle.structure.specs.FortranTypes.{fortran-end}
 use Rattle.structure.specs.Laws.Limits.{not-holds}
 use Rattle.structure.specs.Laws.Walks.{walk-formed, walk-further, walk-fits, walk-below, walk-after}
 use Rattle.structure.specs.Laws.Runs.{entry-spent, head-fails, head-holds, run-start, run-end, run-stop, run-on, run-stops, run-inside}
-use Rattle.structure.specs.Laws.Asked.{asked, fortran-asks, selectors-asked}
+use Rattle.structure.specs.Laws.Inside.{by-name}
+use Rattle.structure.specs.Structure.{test}
 use Rattle.structure.specs.Laws.Checks.{InFortran, fortran-entry, fortran-moved}
 use Rattle.structure.proofs.fortran.validate_fortran_type.Statement.{statement}
 use Rattle.structure.proofs.fortran.validate_fortran_type.Tie as tie
@@ -83,7 +84,8 @@ enum-known-said : tie.Need-enum-known-said Inv-loop μ-loop
 enum-known-said c = omega arith
 
 returns-4 : tie.Need-returns-4 Inv-loop μ-loop
-returns-4 c = run-stops (c .before .before .before .before .before .before .before .before .before .before .loop .inv) (omega arith) (c .before .before .before .before .before .before .before .node-end .ensures) (fortran-moved (c .before .before .before .before .before .before .before .before .before .before .loop .inv) (omega arith) (c .before .before .before .before .before .before .before .before .shape-at .ensures) (c .before .before .before .before .before .before .before .node-end .ensures) (c .before .before .before .before .before .before .is-single-token .ensures) (c .before .before .before .before .before .fortran-node .ensures) (c .before .before .before .act3 .given .1)) (selectors-asked _ _ (asked (fortran-asks _ _ _) (fortran-moved (c .before .before .before .before .before .before .before .before .before .before .loop .inv) (omega arith) (c .before .before .before .before .before .before .before .before .shape-at .ensures) (c .before .before .before .before .before .before .before .node-end .ensures) (c .before .before .before .before .before .before .is-single-token .ensures) (c .before .before .before .before .before .fortran-node .ensures) (c .before .before .before .act3 .given .1))) (c .before .validate-fortran-selector-list .ensures)) (not-holds (tagOf the-type) (λ l. refl) _ (c .match2 .keys2))
+unfolding test
+returns-4 c = run-stops (c .before .before .before .before .before .before .before .before .before .before .loop .inv) (omega arith) (c .before .before .before .before .before .before .before .node-end .ensures) (fortran-moved (c .before .before .before .before .before .before .before .before .before .before .loop .inv) (omega arith) (c .before .before .before .before .before .before .before .before .shape-at .ensures) (c .before .before .before .before .before .before .before .node-end .ensures) (c .before .before .before .before .before .before .is-single-token .ensures) (c .before .before .before .before .before .fortran-node .ensures) (c .before .before .before .act3 .given .1)) (by-name _ (λ x. refl) (c .before .validate-fortran-selector-list .ensures)) (not-holds (tagOf the-type) (λ l. refl) _ (c .match2 .keys2))
 
 loop-less : tie.Need-loop-less Inv-loop μ-loop
 loop-less c = omega (arith, walk-further (c .before .before .before .before .before .before .before .before .loop .inv .walk) (omega arith) (c .before .before .before .before .before .node-end .ensures), walk-fits (c .before .before .before .before .before .before .before .before .loop .inv .walk) (omega arith) (c .before .before .before .before .before .node-end .ensures))
@@ -95,7 +97,8 @@ loop-less-2 : tie.Need-loop-less-2 Inv-loop μ-loop
 loop-less-2 c = omega (arith, walk-further (c .before .before .before .before .before .before .before .before .before .before .before .before .loop .inv .walk) (omega arith) (c .before .before .before .before .before .before .before .before .before .node-end .ensures), walk-fits (c .before .before .before .before .before .before .before .before .before .before .before .before .loop .inv .walk) (omega arith) (c .before .before .before .before .before .before .before .before .before .node-end .ensures))
 
 loop-again-2 : tie.Need-loop-again-2 Inv-loop μ-loop
-loop-again-2 c = run-inside (c .before .before .before .before .before .before .before .before .before .before .before .before .loop .inv) (omega arith) (c .before .before .before .before .before .before .before .before .before .node-end .ensures) (fortran-moved (c .before .before .before .before .before .before .before .before .before .before .before .before .loop .inv) (omega arith) (c .before .before .before .before .before .before .before .before .before .before .shape-at .ensures) (c .before .before .before .before .before .before .before .before .before .node-end .ensures) (c .before .before .before .before .before .before .before .before .is-single-token .ensures) (c .before .before .before .before .before .before .before .fortran-node .ensures) (c .before .before .before .before .before .act3 .given .1)) (selectors-asked _ _ (asked (fortran-asks _ _ _) (fortran-moved (c .before .before .before .before .before .before .before .before .before .before .before .before .loop .inv) (omega arith) (c .before .before .before .before .before .before .before .before .before .before .shape-at .ensures) (c .before .before .before .before .before .before .before .before .before .node-end .ensures) (c .before .before .before .before .before .before .before .before .is-single-token .ensures) (c .before .before .before .before .before .before .before .fortran-node .ensures) (c .before .before .before .before .before .act3 .given .1))) (c .before .before .before .validate-fortran-selector-list .ensures)) (c .before .said .given .1) tt
+unfolding test
+loop-again-2 c = run-inside (c .before .before .before .before .before .before .before .before .before .before .before .before .loop .inv) (omega arith) (c .before .before .before .before .before .before .before .before .before .node-end .ensures) (fortran-moved (c .before .before .before .before .before .before .before .before .before .before .before .before .loop .inv) (omega arith) (c .before .before .before .before .before .before .before .before .before .before .shape-at .ensures) (c .before .before .before .before .before .before .before .before .before .node-end .ensures) (c .before .before .before .before .before .before .before .before .is-single-token .ensures) (c .before .before .before .before .before .before .before .fortran-node .ensures) (c .before .before .before .before .before .act3 .given .1)) (by-name _ (λ x. refl) (c .before .before .before .validate-fortran-selector-list .ensures)) (c .before .said .given .1) tt
 
 plain-requires-2 : tie.Need-plain-requires-2 Inv-loop μ-loop
 plain-requires-2 c κs = omega arith
