@@ -35,8 +35,8 @@ extern "C" {
  *   - `tree` and `answer` are aligned as uint32_t is;
  *   - a pointer is not NULL, even where its length is 0: any aligned address will do then.
  *
- * It calls memset and memcpy of the C library, allocates nothing and keeps no state. Stack, as measured: at most 11 KB for
- * generated type names, 77 KB for 64 nested lists with the structure check, the most that was seen. */
+ * It calls memset of the C library, allocates nothing and keeps no state. Stack, as measured: at most 10 KB for some 5,600
+ * rows of real type names, 52 KB for 64 nested lists or groups with the structure check, the most that was seen. */
 uint32_t type_name_read(const uint8_t *file, size_t file_len,
                         uint32_t *tree, size_t tree_len,
                         uint32_t *answer, size_t answer_len);

@@ -7,7 +7,7 @@ use crate::host::lexer::TokenKind;
 use crate::kind::Kind;
 use crate::source::Span;
 use crate::steps;
-use crate::stub::{TEXT, hand_in};
+use crate::stub::{TEXT, hand_over, listed};
 use crate::tree::{Node, Shape, Syntax, nodes};
 
 /// The tree's nodes, or why the row is refused.
@@ -51,7 +51,7 @@ macro_rules! reading_with {
             }
 
             pub fn read(row: &Row, tokens: &[TokenKind]) -> Outcome {
-                hand_in(tokens);
+                hand_over(listed(tokens.iter().cloned()));
                 let profile = row.profile();
                 let read = match row.head.flag {
                     0 => TypeName::parse_extension_with_profile(&TEXT, profile),

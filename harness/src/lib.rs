@@ -6,7 +6,7 @@
 //! apart, `copies` runs the original, `tree` makes node records of its trees,
 //! `listing` prints answers, `generate` makes cases, `worked_rows` holds the
 //! rows that document 01 works out, `replay` writes the list of answers that a
-//! program replays.
+//! program replays, `token_list` is the original for measuring.
 
 pub mod answer;
 pub mod copies;
@@ -15,9 +15,11 @@ pub mod generate;
 pub mod kind;
 pub mod lexed;
 pub mod listing;
+pub mod names;
 pub mod oracle;
 pub mod profile;
 pub mod replay;
+pub mod token_list;
 pub mod tree;
 pub mod worked_rows;
 

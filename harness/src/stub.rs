@@ -25,13 +25,16 @@ static SPANS: LazyLock<Vec<Span>> = LazyLock::new(|| {
     (0..=ROW_LIMIT).map(place).collect()
 });
 
-/// Sets the tokens that the next run of the original reads. The closing
-/// `End` is added, and each token's span is its number.
-pub fn hand_in(row: &[TokenKind]) {
+/// The list that a lexer would give: the closing `End` is added, and each
+/// token's span is its number.
+pub fn listed(row: impl ExactSizeIterator<Item = TokenKind>) -> Vec<Token> {
     assert!(row.len() <= ROW_LIMIT, "there is a span for every token");
-    let kinds = row.iter().cloned().chain([TokenKind::End]);
-    let tokens = kinds.zip(SPANS.iter());
-    let tokens = tokens.map(|(kind, &span)| Token { kind, span }).collect();
+    let tokens = row.chain([TokenKind::End]).zip(SPANS.iter());
+    tokens.map(|(kind, &span)| Token { kind, span }).collect()
+}
+
+/// Sets the list that the next run of the original reads.
+pub fn hand_over(tokens: Vec<Token>) {
     HANDED_IN.set(tokens);
 }
 

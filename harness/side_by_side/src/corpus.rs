@@ -4,26 +4,15 @@ use std::collections::BTreeMap;
 use std::fs;
 
 use harness::answer::Answer;
-use harness::format::{Head, NUMBERS_PER_TOKEN, Row};
+use harness::format::NUMBERS_PER_TOKEN;
 use harness::generate::Case;
-use harness::lexed;
+use harness::names::{Name, names};
 use harness::profile::{self, HostLanguage, MEANT_STANDARD};
 
 use crate::Tally;
 
-/// Steps enough for every name.
-const ALLOWANCE: u32 = 1_000_000;
-
 /// Numbers of the buffer beyond those that a row needs.
 const SPARE: usize = 5;
-
-/// A line of the corpus.
-struct Name<'a> {
-    language: HostLanguage,
-    label: &'a str,
-    source: &'a str,
-    text: &'a str,
-}
 
 /// A standard number and a structure flag, with what they are called.
 struct Setting {
@@ -86,7 +75,7 @@ enum Outcome {
 /// the first setting is written there, one a line.
 pub fn compare(file: &str, verdicts: Option<&str>, tally: &mut Tally) -> Result<(), String> {
     let content = fs::read_to_string(file).map_err(|error| format!("{file}: {error}"))?;
-    let names: Vec<Name> = content.lines().map(name).collect::<Result<_, _>>()?;
+    let names = names(&content)?;
     println!("{} names", names.len());
     for (number, setting) in SETTINGS.iter().enumerate() {
         let mut counts = Counts::default();
@@ -104,44 +93,16 @@ pub fn compare(file: &str, verdicts: Option<&str>, tally: &mut Tally) -> Result<
     Ok(())
 }
 
-fn name(line: &str) -> Result<Name<'_>, String> {
-    let mut fields = line.splitn(3, '\t');
-    let (Some(label), Some(source), Some(text)) = (fields.next(), fields.next(), fields.next())
-    else {
-        return Err(format!("no language, source and text: {line}"));
-    };
-    let language = match label {
-        "c" => HostLanguage::C,
-        "cpp" => HostLanguage::Cpp,
-        "fortran" => HostLanguage::Fortran,
-        _ => return Err(format!("no language: {line}")),
-    };
-    Ok(Name {
-        language,
-        label,
-        source,
-        text,
-    })
-}
-
 /// Runs both readers on the name's row, the buffer dirty before: just as long as the row needs, and longer.
 fn answer(name: &Name, setting: &Setting, tally: &mut Tally) -> Outcome {
     let standard = (setting.standard)(name.language);
-    let profile = profile::profile(name.language, standard).expect("a standard of the language");
-    let tokens = match lexed::tokens(name.text, profile) {
-        Ok(tokens) => tokens,
+    let row = match name.row(standard, setting.flag) {
+        Ok(row) => row,
         Err(message) => return Outcome::NotLexed(message),
     };
-    let room = NUMBERS_PER_TOKEN * tokens.len();
-    let head = Head {
-        language: profile::language_number(name.language),
-        standard,
-        flag: setting.flag,
-        allowance: ALLOWANCE,
-    };
-    let file = Row { head, tokens }.write();
+    let room = NUMBERS_PER_TOKEN * row.tokens.len();
     let mut case = Case {
-        file,
+        file: row.write(),
         tree_len: room,
     };
     let answer = tally.add(&case);
