@@ -1,4 +1,4 @@
-// The number of a word: a word is compared with the few known words of its length.
+// The number of a word: a word is compared with the few known words of its length that begin as it does.
 
 use crate::bytes::wide;
 use crate::bytes::wide_two;

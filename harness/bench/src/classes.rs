@@ -136,7 +136,7 @@ fn plain(kind: Kind) -> Token {
 /// `A<b,b,..>`
 fn list(tokens: usize) -> Vec<Token> {
     let mut row = vec![word("A"), plain(Kind::Less)];
-    while row.len() + 3 <= tokens {
+    while row.len() + 2 <= tokens {
         row.extend([word("b"), plain(Kind::Comma)]);
     }
     row.pop();
