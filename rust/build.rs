@@ -3,7 +3,7 @@
 use std::env;
 use std::path::Path;
 
-/// Where `rt staticlib type_name` puts it.
+/// Where `tools/library` puts it.
 const MADE_IN: &str = "../target/staticlib";
 
 fn main() {
@@ -16,7 +16,7 @@ fn main() {
     println!("cargo::rerun-if-changed={}", library.display());
     if !library.is_file() {
         println!(
-            "cargo::error=no {}: `rt staticlib type_name` makes it, TYPE_NAME_LIB names its folder",
+            "cargo::error=no {}: `tools/library` makes it, TYPE_NAME_LIB names its folder",
             library.display()
         );
     }
