@@ -4,7 +4,7 @@ use Prim.Native.Nat.{ℕ, _-_}
 use mathlib.Core.Bool.{Bool, true, false}
 use lib.Dec.{leb}
 use Rattle.rows.specs.Notation.{if_then_else_}
-use Rattle.structure.specs.Moves.{Said, holds, fails}
+use Rattle.structure.specs.Said.{Said, holds, fails}
 use Rattle.structure.specs.declared.moves.Verdict.{Verdict}
 use Rattle.structure.specs.declared.moves.Verdict.the-variants.{Holds, Fails, Spent}
 

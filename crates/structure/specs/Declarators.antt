@@ -4,21 +4,15 @@
 -- Assumes nothing.
 use Prim.Native.Nat.{ℕ}
 use mathlib.Core.Bool.{Bool, true, false, _&&_, _||_, not}
-use mathlib.Core.List.{List}
 use lib.Dec.{eqb}
 use Rattle.rows.specs.Notation.{if_then_else_, _is-one-of_}
 use Rattle.rows.specs.Languages.{C, Cpp}
 use Rattle.rows.specs.Kinds.{Identifier, Scope, Star}
 use Rattle.rows.specs.Words.{noexcept, «_Atomic», decltype, «_BitInt»}
-use Rattle.reader.specs.Nodes.{Nodes}
-use Rattle.structure.specs.Shapes.{NoNode, Parenthesized, Bracketed, TemplateArguments, shape, any}
-use Rattle.structure.specs.Sets.{typeof-words, reference-operators, declarator-starts, is-c-family-declarator-qualifier}
-use Rattle.structure.specs.Moves.{Test, type-name, expression, optional-expression, type-or-expression, array-bound, declarator, arguments}
-use Rattle.structure.specs.Moves.{declarator-or-parameters, Move, inside, on-if, inside-if}
-
--- `looks_like_abstract_declarator`
-unfoldable pub looks-like-abstract-declarator : (kinds : List ℕ) → Nodes → Bool
-looks-like-abstract-declarator kinds x = shape kinds x is-one-of declarator-starts || (any kinds Scope x && any kinds Star x)
+use Rattle.type_nodes.specs.Shapes.{NoNode, Parenthesized, Bracketed, TemplateArguments}
+use Rattle.type_nodes.specs.Sets.{typeof-words, reference-operators, is-c-family-declarator-qualifier}
+use Rattle.type_nodes.specs.Moves.{Test, type-name, expression, optional-expression, type-or-expression, array-bound, declarator, arguments}
+use Rattle.type_nodes.specs.Moves.{declarator-or-parameters, Move, inside, on-if, inside-if}
 
 -- `scope_has_valid_neighbors`
 unfoldable pub scope-has-valid-neighbors : (left right : ℕ) → Bool

@@ -1,30 +1,32 @@
 -- Computed examples of the structure check, so that a wrong edit of a definition is refused here. The answers are those of type_name.rs at the
 -- latest standards; the steps are those of the reading and of the check together.
-use Prim.Native.Nat.{ℕ, _+_}
+use Prim.Native.Nat.{ℕ}
 use mathlib.Core.Path.{_≡_, refl}
 use mathlib.Core.List.{List, [], _∷_}
 use lib.Dec.{eqb}
 use Rattle.rows.specs.Notation.{_is-one-of_}
 use Rattle.rows.specs.Languages.{C, Cpp, Fortran}
-use Rattle.rows.specs.Kinds.{Identifier, Integer, Boolean, LeftParen, RightParen, LeftBracket, RightBracket, Comma, Question, Colon, Scope, Dot}
+use Rattle.rows.specs.Kinds.{Integer, Boolean, LeftParen, RightParen, LeftBracket, RightBracket, Comma, Question, Colon, Scope, Dot}
 use Rattle.rows.specs.Kinds.{Percent, Plus, Minus, Star, BitwiseNot, Ampersand, LogicalAnd, LogicalNeqv, Equal, Less, Greater, ShiftRight, PlusPlus}
-use Rattle.rows.specs.Words.{no-word, void, char, int, double, long, signed, unsigned, const, noexcept, typeof, «_BitInt», struct, class, type}
-use Rattle.rows.specs.Words.{precision, other-case, exactly, ignoring-case}
+use Rattle.rows.specs.Words.{void, char, int, double, long, unsigned, const, noexcept, typeof, «_BitInt», type, precision, exactly, ignoring-case}
 use Rattle.reader.specs.Nodes.{count}
 use Rattle.reader.specs.Reading.{Got, got, bad, kindAt, reading}
-use Rattle.structure.specs.Shapes.{shape-of, empty, next, arguments-of, prepend, parts-are-full, shape, node-identifier, any, is-single-token}
-use Rattle.structure.specs.Shapes.{is-ellipsis, split-on-commas}
-use Rattle.structure.specs.Sets.{builtin-type-words, scalar-bases, signs, declarator-qualifiers, parenthesis-words, typeof-words}
-use Rattle.structure.specs.Sets.{elaborated-words, cpp-elaborated-words, derived-type-words, words-after-double, is-c-builtin-type-word}
-use Rattle.structure.specs.Sets.{is-c-family-declarator-qualifier, is-keyword, reference-operators, declarator-starts, literals}
-use Rattle.structure.specs.Sets.{member-accesses, accesses-of, prefix-operators, postfix-operators, c-family-operators, fortran-operators}
-use Rattle.structure.specs.Sets.{is-binary-or-assignment-operator}
-use Rattle.structure.specs.Moves.{Said, holds, fails, after, both, either, plain, every, on-if, inside-if}
-use Rattle.structure.specs.Specifiers.{none-seen, times, has, once-more, how-many, builtin-words, too-often, no-builtin-word}
-use Rattle.structure.specs.Specifiers.{validate-c-bit-int-sign, validate-c-builtin-combination, specifiers-end, parenthesis-word}
-use Rattle.structure.specs.Specifiers.{qualifier-word, elaborated-word, builtin-word, name-word, specifier-scope, specifier-list}
-use Rattle.structure.specs.Specifiers.{specifier-node, specifiers-from, validate-c-decl-specifiers}
-use Rattle.structure.specs.Declarators.{looks-like-abstract-declarator, scope-has-valid-neighbors, is-part-of-name, type-end, declarator-end}
+use Rattle.type_nodes.specs.Shapes.{shape-of, empty, next, arguments-of, prepend, parts-are-full, shape, node-identifier, is-single-token}
+use Rattle.type_nodes.specs.Shapes.{is-ellipsis, split-on-commas}
+use Rattle.type_nodes.specs.Sets.{builtin-type-words, scalar-bases, signs, declarator-qualifiers, parenthesis-words, typeof-words}
+use Rattle.type_nodes.specs.Sets.{elaborated-words, cpp-elaborated-words, derived-type-words, words-after-double, is-c-builtin-type-word}
+use Rattle.type_nodes.specs.Sets.{is-c-family-declarator-qualifier, is-keyword, reference-operators, declarator-starts, literals}
+use Rattle.type_nodes.specs.Sets.{member-accesses, accesses-of, prefix-operators, postfix-operators, c-family-operators, fortran-operators}
+use Rattle.type_nodes.specs.Sets.{is-binary-or-assignment-operator}
+use Rattle.type_nodes.specs.Moves.{on-if, inside-if}
+use Rattle.type_nodes.specs.Specifiers.{none-seen, times, has, once-more, how-many, builtin-words, too-often, no-builtin-word}
+use Rattle.type_nodes.specs.Specifiers.{validate-c-bit-int-sign, validate-c-builtin-combination, specifiers-end, parenthesis-word}
+use Rattle.type_nodes.specs.Specifiers.{qualifier-word, elaborated-word, builtin-word, name-word, specifier-scope, specifier-list}
+use Rattle.type_nodes.specs.Specifiers.{specifier-node, specifiers-from, validate-c-decl-specifiers}
+use Rattle.type_nodes.specs.AbstractDeclarators.{any, looks-like-abstract-declarator}
+use Rattle.type_nodes.specs.Examples.{Token, word, token, name, kinds-of, words-of}
+use Rattle.structure.specs.Said.{Said, holds, fails, after, both, either, plain, every}
+use Rattle.structure.specs.Declarators.{scope-has-valid-neighbors, is-part-of-name, type-end, declarator-end}
 use Rattle.structure.specs.Declarators.{c-family-group, c-family-node, abstract-declarator-node}
 use Rattle.structure.specs.Expressions.{expression-end, expression-node}
 use Rattle.structure.specs.FortranTypes.{fortran-head, validate-fortran-type-head, fortran-end, fortran-node}
@@ -32,28 +34,6 @@ use Rattle.structure.specs.Structure.{validate-cpp-template-argument, va
 use Rattle.structure.specs.Structure.{validate-fortran-selector-value, validate-fortran-selector, validate-fortran-selector-list, test, follow}
 use Rattle.structure.specs.Structure.{run, validate-c-family-type, validate-expression, validate-abstract-declarator, validate-fortran-type}
 use Rattle.structure.specs.Structure.{turn, checkF, checked, validate-structured-syntax}
-
--- A row: each token an identifier, by its word number, or another token, by its kind.
-pub data Token : Type 0 where
-  word : (number : ℕ) → Token
-  token : (kind : ℕ) → Token
-
--- An identifier that is no known word, and one that is a known word in other case.
-abbrev name : Token
-name = word no-word
-
-abbrev other-case-of : ℕ → Token
-other-case-of w = word (w + other-case)
-
-unfoldable pub kinds-of : List Token → List ℕ
-kinds-of [] = []
-kinds-of (word w ∷ row) = Identifier ∷ kinds-of row
-kinds-of (token k ∷ row) = k ∷ kinds-of row
-
-unfoldable pub words-of : List Token → List ℕ
-words-of [] = []
-words-of (word w ∷ row) = w ∷ words-of row
-words-of (token k ∷ row) = no-word ∷ words-of row
 
 -- The check of what the reading came to.
 unfoldable pub checked-reading : (lang : ℕ) (kinds words : List ℕ) → Got → Said
@@ -76,60 +56,15 @@ one-word : judged C (word int ∷ []) ≡ holds 2
 unfolding judged
 one-word = refl
 
--- `long long`
-long-long : judged C (word long ∷ word long ∷ []) ≡ holds 3
-unfolding judged
-long-long = refl
-
 -- `long long long`
 long-long-long : judged C (word long ∷ word long ∷ word long ∷ []) ≡ fails 4
 unfolding judged
 long-long-long = refl
 
--- `signed unsigned`
-signed-unsigned : judged C (word signed ∷ word unsigned ∷ []) ≡ fails 3
-unfolding judged
-signed-unsigned = refl
-
--- `long double long`
-long-long-double : judged C (word long ∷ word double ∷ word long ∷ []) ≡ fails 4
-unfolding judged
-long-long-double = refl
-
--- `const int const`
-const-twice : judged C (word const ∷ word int ∷ word const ∷ []) ≡ fails 4
-unfolding judged
-const-twice = refl
-
--- `LONG const LONG`
-words-in-other-case : judged C (other-case-of long ∷ word const ∷ other-case-of long ∷ []) ≡ fails 4
-unfolding judged
-words-in-other-case = refl
-
--- `struct Lane`
-elaborated : judged C (word struct ∷ name ∷ []) ≡ holds 3
-unfolding judged
-elaborated = refl
-
--- `class Lane`
-class-in-c : judged C (word class ∷ name ∷ []) ≡ fails 3
-unfolding judged
-class-in-c = refl
-
 -- `unsigned _BitInt(8)`
 bit-int : judged C (word unsigned ∷ word «_BitInt» ∷ token LeftParen ∷ token Integer ∷ token RightParen ∷ []) ≡ holds 6
 unfolding judged
 bit-int = refl
-
--- `_BitInt(8) unsigned`
-bit-int-sign-after : judged C (word «_BitInt» ∷ token LeftParen ∷ token Integer ∷ token RightParen ∷ word unsigned ∷ []) ≡ holds 6
-unfolding judged
-bit-int-sign-after = refl
-
--- `signed _BitInt(8) unsigned`
-bit-int-two-signs : judged C (word signed ∷ word «_BitInt» ∷ token LeftParen ∷ token Integer ∷ token RightParen ∷ word unsigned ∷ []) ≡ fails 6
-unfolding judged
-bit-int-two-signs = refl
 
 -- `typeof(int *)`
 typeof-type : judged C (word typeof ∷ token LeftParen ∷ word int ∷ token Star ∷ token RightParen ∷ []) ≡ holds 6
@@ -179,16 +114,6 @@ member-pointer = refl
 leading-scope : judged Cpp (token Scope ∷ name ∷ []) ≡ holds 3
 unfolding judged
 leading-scope = refl
-
--- `::int`
-leading-scope-keyword : judged Cpp (token Scope ∷ word int ∷ []) ≡ fails 3
-unfolding judged
-leading-scope-keyword = refl
-
--- `Lane::(*)`
-scope-at-end : judged Cpp (name ∷ token Scope ∷ token LeftParen ∷ token Star ∷ token RightParen ∷ []) ≡ fails 5
-unfolding judged
-scope-at-end = refl
 
 -- `A<B<c>>`
 nested-lists : judged Cpp (name ∷ token Less ∷ name ∷ token Less ∷ name ∷ token ShiftRight ∷ []) ≡ holds 8

@@ -6,9 +6,9 @@ use lib.Dec.{eqb}
 use Rattle.rows.specs.Notation.{if_then_else_, _is-one-of_}
 use Rattle.rows.specs.Languages.{Cpp, Fortran}
 use Rattle.rows.specs.Kinds.{Identifier, Question, Colon, Scope}
-use Rattle.structure.specs.Shapes.{Parenthesized, Bracketed, TemplateArguments}
-use Rattle.structure.specs.Sets.{literals, member-accesses, accesses-of, prefix-operators, postfix-operators, is-binary-or-assignment-operator}
-use Rattle.structure.specs.Moves.{some-expression, optional-expression, arguments, Move, on, on-if, inside-if}
+use Rattle.type_nodes.specs.Shapes.{Parenthesized, Bracketed, TemplateArguments}
+use Rattle.type_nodes.specs.Sets.{literals, member-accesses, accesses-of, prefix-operators, postfix-operators, is-binary-or-assignment-operator}
+use Rattle.type_nodes.specs.Moves.{some-expression, optional-expression, arguments, Move, on, on-if, inside-if}
 
 -- The variables of `validate_expression`, below for short: operand, access, depth. An operand is expected; it must be a name, as after `.` or `::`;
 -- so many `?` wait for their `:`.

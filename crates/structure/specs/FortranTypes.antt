@@ -9,9 +9,9 @@ use Rattle.rows.specs.Notation.{if_then_else_, _is-one-of_}
 use Rattle.rows.specs.Kinds.{Identifier, Star}
 use Rattle.rows.specs.Words.{double}
 use Rattle.reader.specs.Nodes.{Nodes}
-use Rattle.structure.specs.Shapes.{Parenthesized, next, shape, caseless-word}
-use Rattle.structure.specs.Sets.{derived-type-words, words-after-double}
-use Rattle.structure.specs.Moves.{selectors, Move, stop, on, inside}
+use Rattle.type_nodes.specs.Shapes.{Parenthesized, next, shape, caseless-word}
+use Rattle.type_nodes.specs.Sets.{derived-type-words, words-after-double}
+use Rattle.type_nodes.specs.Moves.{selectors, Move, stop, on, inside}
 
 -- s and w: shape and word of the first node, `right` and rw: those of the second.
 unfoldable pub fortran-head : (s w right rw : ℕ) → Bool

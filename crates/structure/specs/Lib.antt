@@ -1,16 +1,10 @@
-pub mod Shapes
-pub mod Sets
-pub mod Moves
-pub mod Specifiers
+pub mod Said
 pub mod Declarators
 pub mod Expressions
 pub mod FortranTypes
 pub mod Structure
-pub mod Stands
 pub mod Represented
-pub mod RepresentedSpecifiers
 pub mod Allowance
 pub mod Says
-pub mod Parts
 pub mod Laws
 pub mod Examples

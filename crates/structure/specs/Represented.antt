@@ -1,8 +1,8 @@
 -- What the declared types of the code stand for. Assumes nothing.
 use Prim.Native.Nat.{ℕ, _≤_}
 use mathlib.Core.Path.{_≡_}
-use Rattle.structure.specs.Moves.{Test, type-name, expression, some-expression, optional-expression, type-or-expression, array-bound, declarator}
-use Rattle.structure.specs.Moves.{arguments, selectors, declarator-or-parameters, Move, stop, on, inside}
+use Rattle.type_nodes.specs.Moves.{Test, type-name, expression, some-expression, optional-expression, type-or-expression, array-bound, declarator}
+use Rattle.type_nodes.specs.Moves.{arguments, selectors, declarator-or-parameters, Move, stop, on, inside}
 use Rattle.structure.specs.Declarators.{TypeState, type-state, DeclaratorState, declarator-state}
 use Rattle.structure.specs.Expressions.{ExpressionState, expression-state}
 use Rattle.structure.specs.FortranTypes.{FortranState, fortran-state}

@@ -3,9 +3,10 @@ use Prim.Native.Nat.{ℕ}
 use mathlib.Core.Path.{_≡_}
 use mathlib.Core.List.{List}
 use Rattle.reader.specs.Nodes.{Nodes}
-use Rattle.structure.specs.Moves.{Said, Test}
+use Rattle.type_nodes.specs.Moves.{Test}
+use Rattle.type_nodes.specs.Stands.{Stands}
+use Rattle.structure.specs.Said.{Said}
 use Rattle.structure.specs.Structure.{Job, checked, test}
-use Rattle.structure.specs.Stands.{Stands}
 use Rattle.structure.specs.Allowance.{limited}
 use Rattle.structure.specs.declared.moves.Verdict.{Verdict}
 

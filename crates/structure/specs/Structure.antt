@@ -11,12 +11,14 @@ use Rattle.rows.specs.Languages.{Fortran}
 use Rattle.rows.specs.Kinds.{Identifier, Integer, Colon, Star, Equal}
 use Rattle.rows.specs.Words.{no-word, exactly}
 use Rattle.reader.specs.Nodes.{Nodes, none, node, count}
-use Rattle.structure.specs.Shapes.{NoNode, empty, next, arguments-of, parts-are-full, shape, node-identifier, exact-word, is-single-token, is-ellipsis}
-use Rattle.structure.specs.Shapes.{split-on-commas}
-use Rattle.structure.specs.Moves.{Said, fails, after, both, either, plain, every, Move, stop, on, inside, Test, type-name, expression, some-expression}
-use Rattle.structure.specs.Moves.{optional-expression, type-or-expression, array-bound, declarator, arguments, selectors, declarator-or-parameters}
-use Rattle.structure.specs.Specifiers.{validate-c-decl-specifiers}
-use Rattle.structure.specs.Declarators.{looks-like-abstract-declarator, TypeState, type-state, type-end, c-family-node, DeclaratorState, declarator-state}
+use Rattle.type_nodes.specs.Shapes.{NoNode, empty, next, arguments-of, parts-are-full, shape, node-identifier, exact-word, is-single-token, is-ellipsis}
+use Rattle.type_nodes.specs.Shapes.{split-on-commas}
+use Rattle.type_nodes.specs.AbstractDeclarators.{looks-like-abstract-declarator}
+use Rattle.type_nodes.specs.Moves.{Move, stop, on, inside, Test, type-name, expression, some-expression, optional-expression, type-or-expression}
+use Rattle.type_nodes.specs.Moves.{array-bound, declarator, arguments, selectors, declarator-or-parameters}
+use Rattle.type_nodes.specs.Specifiers.{validate-c-decl-specifiers}
+use Rattle.structure.specs.Said.{Said, fails, after, both, either, plain, every}
+use Rattle.structure.specs.Declarators.{TypeState, type-state, type-end, c-family-node, DeclaratorState, declarator-state}
 use Rattle.structure.specs.Declarators.{declarator-end, abstract-declarator-node}
 use Rattle.structure.specs.Expressions.{ExpressionState, expression-state, expression-end, expression-node}
 use Rattle.structure.specs.FortranTypes.{FortranState, fortran-state, fortran-end, fortran-node, validate-fortran-type-head}

@@ -1,15 +1,9 @@
 // The structure check: does a tree name a type (refusal 30), and in how many steps. Its definitions are in specs/.
 
 pub mod checks;
-pub mod combination;
 pub mod expressions;
 pub mod fortran;
 pub mod moves;
-pub mod nodes;
-pub mod parts;
 pub mod selectors;
-pub mod sets;
-pub mod shapes;
-pub mod specifiers;
 pub mod syntax;
 pub mod tables;

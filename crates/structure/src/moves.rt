@@ -1,7 +1,8 @@
 // What a check does at a node, and what it comes to: specs/Moves.antt.
 
 ghost use mathlib.Core.Path.{_≡_};
-ghost use Rattle.structure.specs.Moves.{on-if, inside-if, plain};
+ghost use Rattle.type_nodes.specs.Moves.{on-if, inside-if};
+ghost use Rattle.structure.specs.Said.{plain};
 ghost use Rattle.structure.specs.Declarators.{type-state, declarator-state};
 ghost use Rattle.structure.specs.Expressions.{expression-state};
 ghost use Rattle.structure.specs.Represented.{test-of, type-move-of, declarator-move-of, Moves};

@@ -2,18 +2,18 @@
 
 use crate::checks::validate_expression;
 use crate::moves::Verdict;
-use crate::nodes::is_single_token;
-use crate::nodes::node_end;
-use crate::nodes::parts_are_full;
-use crate::nodes::shape_at;
-use crate::parts::part_end;
 use rows::kinds::COLON;
 use rows::kinds::EQUAL;
 use rows::kinds::IDENTIFIER;
 use rows::kinds::STAR;
+use type_nodes::nodes::is_single_token;
+use type_nodes::nodes::node_end;
+use type_nodes::nodes::shape_at;
+use type_nodes::split_on_commas::part_end;
+use type_nodes::split_on_commas::parts_are_full;
 ghost use mathlib.Core.Path.{_≡_};
+ghost use Rattle.type_nodes.specs.Stands.{Ready};
 ghost use Rattle.structure.specs.Structure.{validate-fortran-selector-value, validate-fortran-selector, validate-fortran-selector-list};
-ghost use Rattle.structure.specs.Stands.{Ready};
 ghost use Rattle.structure.specs.Says.{Answers};
 
 fn validate_fortran_selector_value(

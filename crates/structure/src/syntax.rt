@@ -5,8 +5,8 @@ use crate::fortran::validate_fortran_type;
 use crate::moves::Verdict;
 use rows::languages::FORTRAN;
 ghost use mathlib.Core.Path.{_≡_};
+ghost use Rattle.type_nodes.specs.Stands.{Ready};
 ghost use Rattle.structure.specs.Structure.{validate-structured-syntax};
-ghost use Rattle.structure.specs.Stands.{Ready};
 ghost use Rattle.structure.specs.Says.{Says};
 
 // `allowed`: the steps that are left to it.

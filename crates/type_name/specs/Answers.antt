@@ -21,7 +21,7 @@ use Rattle.prescan.specs.Prescan.{Scanned, passed, prescan}
 use Rattle.prescan.specs.Prescan
 use Rattle.reader.specs.Nodes.{Nodes, none, node, count, numbers-per-token, records}
 use Rattle.reader.specs.Reading.{Got, got, bad, Fault, refusal, no-list, reading}
-use Rattle.structure.specs.Moves.{Said, holds, fails}
+use Rattle.structure.specs.Said.{Said, holds, fails}
 use Rattle.structure.specs.Structure.{validate-structured-syntax}
 use Rattle.profile.specs.Profile.{missing-feature}
 use Rattle.profile.specs.declared.profile.Lack.{Lack}

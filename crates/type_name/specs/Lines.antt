@@ -5,11 +5,13 @@ use mathlib.Core.List.{List, map}
 use Rattle.rows.specs.Refusals.{refusalOf}
 use Rattle.rows.specs.Notation.{_is-one-of_}
 use Rattle.rows.specs.Words.{known, bytes, lower, same-through, same-exactly, same-ignoring-case, number-among, word-number, exactly, ignoring-case}
-use Rattle.structure.specs.Shapes.{shape-of, empty, next, arguments-of, prepend, parts-are-full, shape, node-identifier, any, is-single-token, is-ellipsis, split-on-commas}
-use Rattle.structure.specs.Sets.{builtin-type-words, scalar-bases, signs, declarator-qualifiers, parenthesis-words, typeof-words, elaborated-words, cpp-elaborated-words, derived-type-words, words-after-double, is-c-builtin-type-word, is-c-family-declarator-qualifier, is-keyword, reference-operators, declarator-starts, literals, member-accesses, accesses-of, prefix-operators, postfix-operators, c-family-operators, fortran-operators, is-binary-or-assignment-operator}
-use Rattle.structure.specs.Moves.{after, both, either, plain, every, on-if, inside-if}
-use Rattle.structure.specs.Specifiers.{none-seen, times, has, once-more, how-many, builtin-words, too-often, no-builtin-word, validate-c-bit-int-sign, validate-c-builtin-combination, specifiers-end, parenthesis-word, qualifier-word, elaborated-word, builtin-word, name-word, specifier-scope, specifier-list, specifier-node, specifiers-from, validate-c-decl-specifiers}
-use Rattle.structure.specs.Declarators.{looks-like-abstract-declarator, scope-has-valid-neighbors, is-part-of-name, type-end, declarator-end, c-family-group, c-family-node, abstract-declarator-node}
+use Rattle.type_nodes.specs.Shapes.{shape-of, empty, next, arguments-of, prepend, parts-are-full, shape, node-identifier, is-single-token, is-ellipsis, split-on-commas}
+use Rattle.type_nodes.specs.Sets.{builtin-type-words, scalar-bases, signs, declarator-qualifiers, parenthesis-words, typeof-words, elaborated-words, cpp-elaborated-words, derived-type-words, words-after-double, is-c-builtin-type-word, is-c-family-declarator-qualifier, is-keyword, reference-operators, declarator-starts, literals, member-accesses, accesses-of, prefix-operators, postfix-operators, c-family-operators, fortran-operators, is-binary-or-assignment-operator}
+use Rattle.type_nodes.specs.AbstractDeclarators.{any, looks-like-abstract-declarator}
+use Rattle.type_nodes.specs.Moves.{on-if, inside-if}
+use Rattle.type_nodes.specs.Specifiers.{none-seen, times, has, once-more, how-many, builtin-words, too-often, no-builtin-word, validate-c-bit-int-sign, validate-c-builtin-combination, specifiers-end, parenthesis-word, qualifier-word, elaborated-word, builtin-word, name-word, specifier-scope, specifier-list, specifier-node, specifiers-from, validate-c-decl-specifiers}
+use Rattle.structure.specs.Said.{after, both, either, plain, every}
+use Rattle.structure.specs.Declarators.{scope-has-valid-neighbors, is-part-of-name, type-end, declarator-end, c-family-group, c-family-node, abstract-declarator-node}
 use Rattle.structure.specs.Expressions.{expression-end, expression-node}
 use Rattle.structure.specs.FortranTypes.{fortran-head, validate-fortran-type-head, fortran-end, fortran-node}
 use Rattle.structure.specs.Structure.{validate-cpp-template-argument, validate-parameter, validate-parameter-type-list, validate-fortran-selector-value, validate-fortran-selector, validate-fortran-selector-list, test, follow, run, validate-c-family-type, validate-expression, validate-abstract-declarator, validate-fortran-type, turn, checkF, checked, validate-structured-syntax}

@@ -6,15 +6,16 @@ use mathlib.Core.List.{List}
 use Rattle.rows.specs.Kinds.{Integer}
 use Rattle.rows.specs.Words.{no-word, exactly}
 use Rattle.reader.specs.Nodes.{Nodes, count}
-use Rattle.structure.specs.Shapes.{NoNode, next, shape, exact-word, is-single-token}
-use Rattle.structure.specs.Moves.{Said, after, both, plain, Move}
-use Rattle.structure.specs.Specifiers.{validate-c-decl-specifiers}
+use Rattle.type_nodes.specs.Shapes.{NoNode, next, shape, exact-word, is-single-token}
+use Rattle.type_nodes.specs.Moves.{Move}
+use Rattle.type_nodes.specs.Specifiers.{validate-c-decl-specifiers}
+use Rattle.type_nodes.specs.Stands.{Of, below}
+use Rattle.structure.specs.Said.{Said, after, both, plain}
 use Rattle.structure.specs.Declarators.{TypeState, type-state, type-end, c-family-node, DeclaratorState, declarator-state, declarator-end, abstract-declarator-node}
 use Rattle.structure.specs.Expressions.{ExpressionState, expression-state, expression-end, expression-node}
 use Rattle.structure.specs.FortranTypes.{FortranState, fortran-state, fortran-end, fortran-node, validate-fortran-type-head}
 use Rattle.structure.specs.Structure.{a-type, an-expression, a-declarator, checked, turn, run, type-move, declarator-move, expression-move, fortran-move}
 use Rattle.structure.specs.Structure.{validate-c-family-type, validate-expression, validate-abstract-declarator, validate-fortran-type}
-use Rattle.structure.specs.Stands.{Of, below}
 use Rattle.structure.specs.Represented.{type-state-of, type-move-of, declarator-state-of, declarator-move-of, expression-state-of, expression-move-of}
 use Rattle.structure.specs.Represented.{fortran-state-of, fortran-move-of, Moves, Waits}
 use Rattle.structure.specs.Laws.Fixed.{fixed}

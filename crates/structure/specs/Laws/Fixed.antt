@@ -9,9 +9,11 @@ use lib.Dec.{eqb}
 use Rattle.rows.specs.Notation.{if_then_else_}
 use Rattle.rows.specs.Kinds.{Comma}
 use Rattle.reader.specs.Nodes.{NodeKind, Nodes, none, node, count}
-use Rattle.structure.specs.Shapes.{empty, next, arguments-of, prepend, parts-are-full, shape, node-identifier, is-single-token, is-ellipsis, split-on-commas}
-use Rattle.structure.specs.Moves.{Said, holds, fails, after, both, either, plain, every, Test, expression, some-expression, optional-expression, array-bound, type-name, type-or-expression, declarator, arguments, selectors, declarator-or-parameters, Move, stop, on, inside}
-use Rattle.structure.specs.Declarators.{TypeState, type-end, DeclaratorState, declarator-end, looks-like-abstract-declarator}
+use Rattle.type_nodes.specs.Shapes.{empty, next, arguments-of, prepend, parts-are-full, shape, node-identifier, is-single-token, is-ellipsis, split-on-commas}
+use Rattle.type_nodes.specs.Moves.{Test, expression, some-expression, optional-expression, array-bound, type-name, type-or-expression, declarator, arguments, selectors, declarator-or-parameters, Move, stop, on, inside}
+use Rattle.type_nodes.specs.AbstractDeclarators.{looks-like-abstract-declarator}
+use Rattle.structure.specs.Said.{Said, holds, fails, after, both, either, plain, every}
+use Rattle.structure.specs.Declarators.{TypeState, type-end, DeclaratorState, declarator-end}
 use Rattle.structure.specs.Expressions.{ExpressionState, expression-end}
 use Rattle.structure.specs.Structure.{Job, a-type, an-expression, a-declarator, validate-cpp-template-argument, validate-parameter, validate-parameter-type-list, validate-fortran-selector-value, validate-fortran-selector, validate-fortran-selector-list, test, follow, run, validate-c-family-type, validate-abstract-declarator, validate-expression, turn, checkF, checked}
 

@@ -6,12 +6,12 @@ use mathlib.Core.List.{List}
 use native.Mathlib.Omega.{arith}
 use Rattle.rows.specs.Words.{ignoring-case}
 use Rattle.reader.specs.Nodes.{Nodes, none, node, count}
-use Rattle.structure.specs.Shapes.{next, shape, node-identifier}
+use Rattle.type_nodes.specs.Shapes.{next, shape, node-identifier}
+use Rattle.type_nodes.specs.Stands.{Stands, Formed, Ready, Of, Finds, below}
+use Rattle.type_nodes.specs.Laws.Siblings.{first, there, found-there}
+use Rattle.type_nodes.specs.declared.nodes.Lookup.{Lookup}
+use Rattle.type_nodes.specs.declared.nodes.Lookup.the-variants.{Node, Nothing}
 use Rattle.structure.specs.FortranTypes.{fortran-head, validate-fortran-type-head}
-use Rattle.structure.specs.Stands.{Stands, Formed, Ready, Of, Finds, below}
-use Rattle.structure.specs.Laws.Ranges.{first, there, found-there}
-use Rattle.structure.specs.declared.nodes.Lookup.{Lookup}
-use Rattle.structure.specs.declared.nodes.Lookup.the-variants.{Node, Nothing}
 
 pub no-head : (kinds words : List ℕ) (x : Nodes) → x ≡ none → false ≡ validate-fortran-type-head kinds words x
 unfolding validate-fortran-type-head fortran-head shape

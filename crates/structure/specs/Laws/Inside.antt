@@ -7,17 +7,18 @@ use mathlib.Core.List.{List}
 use borrow.Author.Tests.{eq-eqb, ne-eqb}
 use Rattle.rows.specs.Kinds.{Identifier, Equal, Star, Colon}
 use Rattle.reader.specs.Nodes.{Nodes, count}
-use Rattle.structure.specs.Shapes.{empty, next, shape, is-single-token, split-on-commas, parts-are-full}
-use Rattle.structure.specs.Moves.{Said, both, either, plain, every, declarator, declarator-or-parameters}
-use Rattle.structure.specs.Declarators.{looks-like-abstract-declarator}
+use Rattle.type_nodes.specs.Shapes.{empty, next, shape, is-single-token, split-on-commas, parts-are-full}
+use Rattle.type_nodes.specs.Moves.{declarator, declarator-or-parameters}
+use Rattle.type_nodes.specs.AbstractDeclarators.{looks-like-abstract-declarator}
+use Rattle.type_nodes.specs.Stands.{Stands, ends, here, Of, below}
+use Rattle.type_nodes.specs.Laws.Siblings.{empty-range}
+use Rattle.type_nodes.specs.Laws.Commas.{stands-next}
+use Rattle.structure.specs.Said.{Said, both, either, plain, every}
 use Rattle.structure.specs.Structure.{a-declarator, checked, test, validate-parameter-type-list}
 use Rattle.structure.specs.Structure.{validate-parameter, validate-fortran-selector, validate-fortran-selector-value, validate-fortran-selector-list}
-use Rattle.structure.specs.Stands.{Stands, ends, here, Of, below}
 use Rattle.structure.specs.Represented.{test-of}
 use Rattle.structure.specs.Allowance.{limited}
 use Rattle.structure.specs.Says.{Says, Answers, Passes}
-use Rattle.structure.specs.Laws.Ranges.{empty-range}
-use Rattle.structure.specs.Laws.Commas.{stands-next}
 use Rattle.structure.specs.Laws.Limits.{on-holds, on-fails, Settles, limited-both, limited-either, limited-yes, limited-no}
 use Rattle.structure.specs.declared.moves.Verdict.{Verdict}
 use Rattle.structure.specs.declared.moves.Verdict.the-variants.{Holds, Fails}

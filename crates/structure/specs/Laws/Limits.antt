@@ -10,7 +10,7 @@ use native.Mathlib.Decide.{decLe}
 use lib.Dec.{leb}
 use borrow.Author.Tests.{le-leb, lt-leb}
 use Rattle.rows.specs.Notation.{if_then_else_}
-use Rattle.structure.specs.Moves.{Said, holds, fails, after, both, either, plain}
+use Rattle.structure.specs.Said.{Said, holds, fails, after, both, either, plain}
 use Rattle.structure.specs.Allowance.{limited}
 use Rattle.structure.specs.declared.moves.Verdict.{Verdict}
 use Rattle.structure.specs.declared.moves.Verdict.the-variants.{Holds, Fails, Spent}

@@ -6,13 +6,14 @@ use mathlib.Core.List.{List}
 use native.Mathlib.Omega.{arith}
 use Rattle.rows.specs.Words.{no-word}
 use Rattle.reader.specs.Nodes.{Nodes, none, node, count}
-use Rattle.structure.specs.Shapes.{NoNode, empty, next, shape, node-identifier}
-use Rattle.structure.specs.Moves.{Said, after, both, plain, Test, Move, stop, on, inside}
+use Rattle.type_nodes.specs.Shapes.{NoNode, empty, next, shape, node-identifier}
+use Rattle.type_nodes.specs.Moves.{Test, Move, stop, on, inside}
+use Rattle.type_nodes.specs.Stands.{Stands, Formed, Of, below}
+use Rattle.type_nodes.specs.Laws.Siblings.{first, nothing-left}
+use Rattle.structure.specs.Said.{Said, after, both, plain}
 use Rattle.structure.specs.Structure.{checked, test, follow, run}
-use Rattle.structure.specs.Stands.{Stands, Formed, Of, below}
 use Rattle.structure.specs.Allowance.{limited}
 use Rattle.structure.specs.Says.{Says, Passes}
-use Rattle.structure.specs.Laws.Ranges.{first, nothing-left}
 use Rattle.structure.specs.Laws.Limits.{limited-entry, limited-none, limited-yes, limited-no, limited-both, on-holds, Stops}
 use Rattle.structure.specs.Laws.Walks.{Walk, Turn, walk-start, walk-ends, walk-on, walk-stops, walk-holds, after-it, below-it, walk-further}
 use Rattle.structure.specs.declared.moves.Verdict.{Verdict}

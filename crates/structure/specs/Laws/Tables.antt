@@ -10,11 +10,11 @@ use Rattle.rows.specs.Notation.{if_then_else_, _is-one-of_}
 use Rattle.rows.specs.Languages.{C, Cpp, Fortran}
 use Rattle.rows.specs.Kinds.{Identifier, Scope, Star, Question, Colon}
 use Rattle.rows.specs.Words.{decltype, noexcept, «_Atomic», «_BitInt»}
-use Rattle.structure.specs.Shapes.{Parenthesized, Bracketed, TemplateArguments}
-use Rattle.structure.specs.Sets.{reference-operators, typeof-words, literals, member-accesses, accesses-of, prefix-operators, postfix-operators}
-use Rattle.structure.specs.Sets.{is-c-family-declarator-qualifier, is-binary-or-assignment-operator}
-use Rattle.structure.specs.Moves.{type-name, expression, some-expression, optional-expression, type-or-expression, array-bound, declarator, arguments}
-use Rattle.structure.specs.Moves.{selectors, declarator-or-parameters, Move, stop, on, inside, on-if, inside-if}
+use Rattle.type_nodes.specs.Shapes.{Parenthesized, Bracketed, TemplateArguments}
+use Rattle.type_nodes.specs.Sets.{reference-operators, typeof-words, literals, member-accesses, accesses-of, prefix-operators, postfix-operators}
+use Rattle.type_nodes.specs.Sets.{is-c-family-declarator-qualifier, is-binary-or-assignment-operator}
+use Rattle.type_nodes.specs.Moves.{type-name, expression, some-expression, optional-expression, type-or-expression, array-bound, declarator, arguments}
+use Rattle.type_nodes.specs.Moves.{selectors, declarator-or-parameters, Move, stop, on, inside, on-if, inside-if}
 use Rattle.structure.specs.Declarators.{scope-has-valid-neighbors, is-part-of-name, type-state, declarator-state, abstract-declarator-node, c-family-group}
 use Rattle.structure.specs.Declarators.{c-family-node}
 use Rattle.structure.specs.Expressions.{expression-state, expression-node}

@@ -19,8 +19,8 @@ use Rattle.reader.specs.Laws.NodeNumbers.{three-each}
 use Rattle.reader.specs.Laws.Buffer.{holds}
 use Rattle.reader.specs.Laws.Derived.{Read, end-row, end-group, end-argument, a-token, a-group, a-list, last, more, derived}
 use Rattle.reader.specs.Laws.Bounds.{opener-inside, two-nodes}
-use Rattle.structure.specs.Moves.{Said, after}
-use Rattle.structure.specs.Stands.{Stands, ends, here, Ready}
+use Rattle.type_nodes.specs.Stands.{Stands, ends, here, Ready}
+use Rattle.structure.specs.Said.{Said, after}
 use Rattle.structure.specs.Allowance.{limited}
 use Rattle.structure.specs.Says.{Says}
 use Rattle.structure.specs.Laws.Limits.{limited-after}

@@ -2,7 +2,7 @@
 use Prim.Native.Nat.{ℕ, _≤_}
 use mathlib.Core.Path.{_≡_, _∙_}
 use native.Mathlib.Omega.{arith}
-use Rattle.structure.specs.Moves.{Move}
+use Rattle.type_nodes.specs.Moves.{Move}
 use Rattle.structure.specs.Expressions.{ExpressionState}
 use Rattle.structure.specs.Represented.{Waits, Moves}
 use Rattle.structure.specs.declared.moves.ExpressionMove.{ExpressionMove}

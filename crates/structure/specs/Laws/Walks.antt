@@ -7,12 +7,12 @@ use native.Mathlib.Omega.{arith}
 use native.Mathlib.Numerals.{add-one}
 use lib.ListN.{length}
 use Rattle.reader.specs.Nodes.{Nodes, count}
-use Rattle.structure.specs.Shapes.{next}
-use Rattle.structure.specs.Moves.{Said, both, plain}
-use Rattle.structure.specs.Stands.{Stands, Formed, Ready, Of, below}
+use Rattle.type_nodes.specs.Shapes.{next}
+use Rattle.type_nodes.specs.Stands.{Stands, Formed, Ready, Of, below}
+use Rattle.type_nodes.specs.Laws.Siblings.{first, unique}
+use Rattle.structure.specs.Said.{Said, both, plain}
 use Rattle.structure.specs.Allowance.{limited}
 use Rattle.structure.specs.Says.{Says}
-use Rattle.structure.specs.Laws.Ranges.{first, unique}
 use Rattle.structure.specs.Laws.Limits.{on-holds, Stops, limited-both}
 use Rattle.structure.specs.declared.moves.Verdict.{Verdict}
 use Rattle.structure.specs.declared.moves.Verdict.the-variants.{Holds}

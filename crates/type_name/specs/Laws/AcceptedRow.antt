@@ -20,7 +20,7 @@ use Rattle.prescan.specs.Prescan.{Scan, Scanned, passed, prescan}
 use Rattle.prescan.specs.Prescan
 use Rattle.reader.specs.Nodes.{Nodes, numbers-per-token}
 use Rattle.reader.specs.Reading.{Got, got, bad, reading}
-use Rattle.structure.specs.Moves.{Said, holds, fails}
+use Rattle.structure.specs.Said.{Said, holds, fails}
 use Rattle.profile.specs.Profile.{missing-feature}
 use Rattle.profile.specs.Laws.Monotone.{nothing-missing-later}
 use Rattle.profile.specs.declared.profile.Lack.{Lack}

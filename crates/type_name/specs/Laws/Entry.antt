@@ -28,7 +28,7 @@ use Rattle.reader.specs.ReaderSays.{TreeRead, LeftOver, ParseSays, Parses}
 use Rattle.reader.specs.declared.parser.Parsed.{Parsed}
 use Rattle.reader.specs.declared.parser.Parsed.the-variants as R
 use Rattle.reader.specs.Laws.Allowance.{steps}
-use Rattle.structure.specs.Moves.{Said, holds, fails, after}
+use Rattle.structure.specs.Said.{Said, holds, fails, after}
 use Rattle.structure.specs.Structure.{validate-structured-syntax}
 use Rattle.structure.specs.Allowance as Steps
 use Rattle.structure.specs.declared.moves.Verdict.{Verdict}

@@ -31,7 +31,7 @@ use Rattle.reader.specs.Nodes.{Nodes, numbers-per-token}
 use Rattle.reader.specs.Reading.{Got, got, bad, Fault, refusal, no-list, reading}
 use Rattle.reader.specs.Laws.Numbered.{FaultNumbered, reading-numbered}
 use Rattle.reader.specs.Laws.Numbered as Read
-use Rattle.structure.specs.Moves.{Said, holds, fails}
+use Rattle.structure.specs.Said.{Said, holds, fails}
 use Rattle.profile.specs.Profile.{missing-feature}
 use Rattle.profile.specs.declared.profile.Lack.{Lack}
 use Rattle.profile.specs.declared.profile.Lack.the-variants.{Nothing, Lacks}

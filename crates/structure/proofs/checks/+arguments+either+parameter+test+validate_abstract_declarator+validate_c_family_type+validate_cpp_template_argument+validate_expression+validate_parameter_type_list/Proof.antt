@@ -8,7 +8,7 @@ use borrow.Author.Needs.{needs}
 use borrow.Author.Tests.{not-true, not-false}
 use denote.Enum.Declared.{tagOf}
 use Rattle.structure.proofs.moves.Verdict.{the-type}
-use Rattle.structure.specs.Moves.{arguments}
+use Rattle.type_nodes.specs.Moves.{arguments}
 use Rattle.structure.specs.Declarators.{type-end, declarator-end}
 use Rattle.structure.specs.Structure.{checked, test, validate-cpp-template-argument, validate-parameter, validate-parameter-type-list}
 use Rattle.structure.specs.Laws.Limits.{not-holds, not-fails}
@@ -18,8 +18,8 @@ use Rattle.structure.specs.Laws.Checks.{InType, InDeclarator, InExpressi
 use Rattle.structure.specs.Laws.Checks.{declarator-moved, expression-moved, waits-on, waits-inside}
 use Rattle.structure.specs.Laws.Inside.{empty-of, full-of, no-node, some-node, no-bound, bound-of, by-name, either-held, either-else, both-failed, both-then}
 use Rattle.structure.specs.Laws.Inside.{first-settles, then-second, told, inside-declarator, group-declarator, group-parameters, parameters-start}
-use Rattle.structure.specs.Laws.Parts.{InParts, InArguments, parts-past, parts-fit, parts-ready, parts-comma, parts-turn, parts-last, parts-next, arguments-end}
-use Rattle.structure.specs.Laws.Parts.{arguments-turn}
+use Rattle.structure.specs.Laws.Every.{InParts, InArguments, parts-past, parts-fit, parts-ready, parts-comma, parts-turn, parts-last, parts-next, arguments-end}
+use Rattle.structure.specs.Laws.Every.{arguments-turn}
 use Prim.Native.Nat.{ℕ, _<_}
 use borrow.Fn.Kinds.{In}
 use borrow.Fn.PlainCycle.{Measures, is, falls, and}
@@ -53,15 +53,15 @@ use Rattle.structure.proofs.checks.+arguments+either+parameter+test+val
 use Rattle.structure.proofs.expressions.expression_end.Reads as expression-end-reads
 use Rattle.structure.proofs.expressions.expression_node.Reads as expression-node-reads
 use Rattle.structure.proofs.moves.plain.Reads as plain-reads
-use Rattle.structure.proofs.nodes.is_ellipsis.Reads as is-ellipsis-reads
-use Rattle.structure.proofs.nodes.is_single_token.Reads as is-single-token-reads
-use Rattle.structure.proofs.nodes.looks_like_abstract_declarator.Reads as looks-like-abstract-declarator-reads
-use Rattle.structure.proofs.nodes.node_end.Reads as node-end-reads
-use Rattle.structure.proofs.nodes.parts_are_full.Reads as parts-are-full-reads
-use Rattle.structure.proofs.nodes.shape_at.Reads as shape-at-reads
-use Rattle.structure.proofs.parts.part_end.Reads as part-end-reads
-use Rattle.structure.proofs.specifiers.exact_word.Reads as exact-word-reads
-use Rattle.structure.proofs.specifiers.validate_c_decl_specifiers.Reads as validate-c-decl-specifiers-reads
+use Rattle.type_nodes.proofs.nodes.is_ellipsis.Reads as is-ellipsis-reads
+use Rattle.type_nodes.proofs.nodes.is_single_token.Reads as is-single-token-reads
+use Rattle.type_nodes.proofs.nodes.looks_like_abstract_declarator.Reads as looks-like-abstract-declarator-reads
+use Rattle.type_nodes.proofs.nodes.node_end.Reads as node-end-reads
+use Rattle.type_nodes.proofs.split_on_commas.parts_are_full.Reads as parts-are-full-reads
+use Rattle.type_nodes.proofs.nodes.shape_at.Reads as shape-at-reads
+use Rattle.type_nodes.proofs.split_on_commas.part_end.Reads as part-end-reads
+use Rattle.type_nodes.proofs.specifiers.exact_word.Reads as exact-word-reads
+use Rattle.type_nodes.proofs.specifiers.validate_c_decl_specifiers.Reads as validate-c-decl-specifiers-reads
 use Rattle.structure.proofs.tables.abstract_declarator_node.Reads as abstract-declarator-node-reads
 use Rattle.structure.proofs.tables.c_family_node.Reads as c-family-node-reads
 use Rattle.structure.proofs.checks.+arguments+either+parameter+test+validate_abstract_declarator+validate_c_family_type+validate_cpp_template_argument+validate_expression+validate_parameter_type_list.{

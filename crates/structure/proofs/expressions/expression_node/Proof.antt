@@ -15,11 +15,11 @@ use Rattle.structure.proofs.expressions.is_prefix.Reads as is-prefix-re
 use Rattle.structure.proofs.expressions.less_one.Reads as less-one-reads
 use Rattle.structure.proofs.moves.expression_inside_if.Reads as expression-inside-if-reads
 use Rattle.structure.proofs.moves.expression_on_if.Reads as expression-on-if-reads
-use Rattle.structure.proofs.sets.is_access_of.Reads as is-access-of-reads
-use Rattle.structure.proofs.sets.is_binary_or_assignment_operator.Reads as is-binary-or-assignment-operator-reads
-use Rattle.structure.proofs.sets.is_literal.Reads as is-literal-reads
-use Rattle.structure.proofs.sets.is_member_access.Reads as is-member-access-reads
-use Rattle.structure.proofs.sets.is_postfix_operator.Reads as is-postfix-operator-reads
+use Rattle.type_nodes.proofs.sets.is_access_of.Reads as is-access-of-reads
+use Rattle.type_nodes.proofs.sets.is_binary_or_assignment_operator.Reads as is-binary-or-assignment-operator-reads
+use Rattle.type_nodes.proofs.sets.is_literal.Reads as is-literal-reads
+use Rattle.type_nodes.proofs.sets.is_member_access.Reads as is-member-access-reads
+use Rattle.type_nodes.proofs.sets.is_postfix_operator.Reads as is-postfix-operator-reads
 
 expression-on-if-requires : tie.Need-expression-on-if-requires
 expression-on-if-requires c κs = search needs

@@ -4,7 +4,7 @@ use Rattle.structure.proofs.expressions.is_prefix.Statement.{statement}
 use Rattle.structure.proofs.expressions.is_prefix.Tie as tie
 use Rattle.structure.proofs.expressions.is_prefix.Reads as reads
 use Rattle.structure.proofs.expressions.is_prefix.Lts as lts
-use Rattle.structure.proofs.sets.is_prefix_operator.Reads as is-prefix-operator-reads
+use Rattle.type_nodes.proofs.sets.is_prefix_operator.Reads as is-prefix-operator-reads
 
 is-prefix-operator-requires : tie.Need-is-prefix-operator-requires
 is-prefix-operator-requires c κs = search needs

@@ -9,8 +9,8 @@ use Rattle.structure.proofs.fortran.head_holds.Statement.{statement}
 use Rattle.structure.proofs.fortran.head_holds.Tie as tie
 use Rattle.structure.proofs.fortran.head_holds.Reads as reads
 use Rattle.structure.proofs.fortran.head_holds.Lts as lts
-use Rattle.structure.proofs.sets.is_derived_type_word.Reads as is-derived-type-word-reads
-use Rattle.structure.proofs.sets.is_word_after_double.Reads as is-word-after-double-reads
+use Rattle.type_nodes.proofs.sets.is_derived_type_word.Reads as is-derived-type-word-reads
+use Rattle.type_nodes.proofs.sets.is_word_after_double.Reads as is-word-after-double-reads
 
 returns : tie.Need-returns
 unfolding fortran-head

@@ -1,8 +1,8 @@
 -- `validate_fortran_type_head` meets its contract. Assumes nothing.
 use native.Mathlib.Omega.{arith}
 use borrow.Author.Needs.{needs}
-use Rattle.structure.specs.Shapes.{next}
-use Rattle.structure.specs.Laws.Ranges.{found-there, found-nothing}
+use Rattle.type_nodes.specs.Shapes.{next}
+use Rattle.type_nodes.specs.Laws.Siblings.{found-there, found-nothing}
 use Rattle.structure.specs.Laws.Heads.{no-head, after-found, formed-after, head-there}
 use borrow.Author.Needs.{needs}
 use Rattle.structure.proofs.fortran.validate_fortran_type_head.Statement.{statement}
@@ -11,9 +11,9 @@ use Rattle.structure.proofs.fortran.validate_fortran_type_head.Reads as
 use Rattle.structure.proofs.fortran.validate_fortran_type_head.Lts as lts
 use Rattle.structure.proofs.fortran.head_holds.Reads as head-holds-reads
 use Rattle.rows.proofs.word_numbers.ignoring_case.Reads as ignoring-case-reads
-use Rattle.structure.proofs.nodes.node_at.Reads as node-at-reads
-use Rattle.structure.proofs.nodes.node_identifier.Reads as node-identifier-reads
-use Rattle.structure.proofs.nodes.shape_at.Reads as shape-at-reads
+use Rattle.type_nodes.proofs.nodes.node_at.Reads as node-at-reads
+use Rattle.type_nodes.proofs.nodes.node_identifier.Reads as node-identifier-reads
+use Rattle.type_nodes.proofs.nodes.shape_at.Reads as shape-at-reads
 
 node-at-requires : tie.Need-node-at-requires
 node-at-requires c κs = c .before .before .before .pre .formed

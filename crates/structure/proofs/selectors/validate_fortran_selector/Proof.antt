@@ -2,15 +2,15 @@
 use mathlib.Core.Path.{_≡_, refl}
 use native.Mathlib.Omega.{arith}
 use borrow.Author.Needs.{needs}
-use Rattle.structure.specs.Laws.Commas.{shaped-range, formed-next}
+use Rattle.type_nodes.specs.Laws.Commas.{shaped-range, formed-next}
 use Rattle.structure.specs.Laws.Inside.{selector-value, selector-name, selector-without, selector-with}
 use borrow.Author.Needs.{needs}
 use Rattle.structure.proofs.selectors.validate_fortran_selector.Statement.{statement}
 use Rattle.structure.proofs.selectors.validate_fortran_selector.Tie as tie
 use Rattle.structure.proofs.selectors.validate_fortran_selector.Reads as reads
 use Rattle.structure.proofs.selectors.validate_fortran_selector.Lts as lts
-use Rattle.structure.proofs.nodes.node_end.Reads as node-end-reads
-use Rattle.structure.proofs.nodes.shape_at.Reads as shape-at-reads
+use Rattle.type_nodes.proofs.nodes.node_end.Reads as node-end-reads
+use Rattle.type_nodes.proofs.nodes.shape_at.Reads as shape-at-reads
 use Rattle.structure.proofs.selectors.validate_fortran_selector_value.Reads as validate-fortran-selector-value-reads
 
 shape-at-requires : tie.Need-shape-at-requires

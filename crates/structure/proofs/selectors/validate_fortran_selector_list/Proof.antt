@@ -10,14 +10,14 @@ use Rattle.structure.specs.Structure.{checked, validate-fortran-selector
 use Rattle.structure.specs.Laws.Limits.{not-holds}
 use Rattle.structure.specs.Laws.Walks.{walk-start, walk-formed, walk-stops, walk-holds, walk-further, walk-fits}
 use Rattle.structure.specs.Laws.Inside.{no-list, list-of, both-failed, selectors-start}
-use Rattle.structure.specs.Laws.Parts.{InParts, parts-past, parts-fit, parts-ready, parts-comma, parts-turn, parts-last, parts-next}
+use Rattle.structure.specs.Laws.Every.{InParts, parts-past, parts-fit, parts-ready, parts-comma, parts-turn, parts-last, parts-next}
 use Rattle.structure.proofs.selectors.validate_fortran_selector_list.Statement.{statement}
 use Rattle.structure.proofs.selectors.validate_fortran_selector_list.Tie as tie
 use Rattle.structure.proofs.selectors.validate_fortran_selector_list.Reads as reads
 use Rattle.structure.proofs.selectors.validate_fortran_selector_list.Lts as lts
-use Rattle.structure.proofs.nodes.node_end.Reads as node-end-reads
-use Rattle.structure.proofs.nodes.parts_are_full.Reads as parts-are-full-reads
-use Rattle.structure.proofs.parts.part_end.Reads as part-end-reads
+use Rattle.type_nodes.proofs.nodes.node_end.Reads as node-end-reads
+use Rattle.type_nodes.proofs.split_on_commas.parts_are_full.Reads as parts-are-full-reads
+use Rattle.type_nodes.proofs.split_on_commas.part_end.Reads as part-end-reads
 use Rattle.structure.proofs.selectors.validate_fortran_selector.Reads as validate-fortran-selector-reads
 
 abbrev Inv-loop : tie.InvT-loop

@@ -10,7 +10,7 @@ use Rattle.structure.proofs.selectors.validate_fortran_selector_value.T
 use Rattle.structure.proofs.selectors.validate_fortran_selector_value.Reads as reads
 use Rattle.structure.proofs.selectors.validate_fortran_selector_value.Lts as lts
 use Rattle.structure.proofs.checks.validate_expression.Reads as validate-expression-reads
-use Rattle.structure.proofs.nodes.is_single_token.Reads as is-single-token-reads
+use Rattle.type_nodes.proofs.nodes.is_single_token.Reads as is-single-token-reads
 
 is-single-token-requires : tie.Need-is-single-token-requires
 is-single-token-requires c κs = (omega arith, c .before .before .before .pre .formed)

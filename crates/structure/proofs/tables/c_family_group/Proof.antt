@@ -10,7 +10,7 @@ use Rattle.structure.proofs.tables.c_family_group.Tie as tie
 use Rattle.structure.proofs.tables.c_family_group.Reads as reads
 use Rattle.structure.proofs.tables.c_family_group.Lts as lts
 use Rattle.structure.proofs.moves.type_inside_if.Reads as type-inside-if-reads
-use Rattle.structure.proofs.sets.is_typeof_word.Reads as is-typeof-word-reads
+use Rattle.type_nodes.proofs.sets.is_typeof_word.Reads as is-typeof-word-reads
 
 type-inside-if-requires : tie.Need-type-inside-if-requires
 type-inside-if-requires c κs = search needs

@@ -1,0 +1,8 @@
+pub mod Chains
+pub mod Counts
+pub mod Siblings
+pub mod Commas
+pub mod CommaParts
+pub mod Found
+pub mod SpecifierTables
+pub mod SpecifierLoop

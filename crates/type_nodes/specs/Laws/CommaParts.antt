@@ -1,0 +1,131 @@
+-- The parts between commas, one at a time, and the walk to the end of the first. Assumes nothing.
+use Prim.Native.Nat.{ℕ, suc, _+_, _*_, _≤_, _<_}
+use mathlib.Core.Path.{_≡_, refl, sym, ap, _∙_, subst}
+use mathlib.Core.Bool.{Bool, true, false, true≢false}
+use mathlib.Core.List.{List, [], _∷_}
+use native.Mathlib.Omega.{arith}
+use lib.ListN.{length}
+use lib.Dec.{eqb}
+use borrow.Author.Tests.{eq-eqb, ne-eqb}
+use Rattle.rows.specs.Notation.{if_then_else_}
+use Rattle.rows.specs.Kinds.{Comma}
+use Rattle.reader.specs.Nodes.{Nodes, none, node, count}
+use Rattle.type_nodes.specs.Shapes.{empty, next, shape, prepend, split-on-commas}
+use Rattle.type_nodes.specs.Stands.{Stands, ends, here, Formed, Of, below}
+use Rattle.type_nodes.specs.CommaParts.{first-part, from-comma}
+use Rattle.type_nodes.specs.Laws.Siblings.{first, nothing-left, unique}
+
+-- The parts after the first: the nodes are those from the first comma on.
+unfoldable pub others : (kinds : List ℕ) → Nodes → List Nodes
+others kinds none = []
+others kinds (node k i b x) = split-on-commas kinds x
+
+pub split-first : (kinds : List ℕ) (x : Nodes) → split-on-commas kinds x ≡ first-part kinds x ∷ others kinds (from-comma kinds x)
+unfolding split-on-commas first-part from-comma others prepend
+split-first kinds none = refl
+split-first kinds (node k i b x) = go (eqb (shape kinds (node k i b x)) Comma) (split-first kinds x)
+  where
+    go : (c : Bool) → split-on-commas kinds x ≡ first-part kinds x ∷ others kinds (from-comma kinds x)
+        → _≡_ {A = List Nodes} (if c then none ∷ split-on-commas kinds x else prepend k i b (split-on-commas kinds x))
+        ((if c then none else node k i b (first-part kinds x)) ∷ others kinds (if c then node k i b x else from-comma kinds x))
+    go true e = refl
+    go false e = ap (prepend k i b) e
+
+pub others-next : (kinds : List ℕ) (x : Nodes) → empty x ≡ false → others kinds x ≡ split-on-commas kinds (next x)
+unfolding others empty next
+others-next kinds none h = absurd (true≢false h)
+others-next kinds (node k i b x) h = refl
+
+pub others-none : (kinds : List ℕ) (x : Nodes) → x ≡ none → others kinds x ≡ []
+unfolding others
+others-none kinds x e = rw e
+
+-- A part stands in the range that it takes up, and the nodes from the comma on after it.
+module _ {tree kinds : List ℕ} where
+  pub part-stands : {a e : ℕ} {x : Nodes} → Stands tree kinds a e x → Stands tree kinds a (a + count (first-part kinds x)) (first-part kinds x)
+  unfolding first-part count
+  part-stands {a} (ends p) = let u : a ≡ a + 0 = omega arith in ends u
+  part-stands {a} (here {k = k} {i = i} {b = b} {x = x} p q c t s r) = go (eqb (shape kinds (node k i b x)) Comma) (part-stands r)
+    where
+      go : (z : Bool) → Stands tree kinds (suc (a + count b)) (suc (a + count b) + count (first-part kinds x)) (first-part kinds x)
+          → Stands tree kinds a (a + count (if z then none else node k i b (first-part kinds x))) (if z then none else node k i b (first-part kinds x))
+      go true u = let v : a ≡ a + 0 = omega arith in ends v
+      go false u =
+          let v : suc (a + count b) + count (first-part kinds x) ≡ a + suc (count b + count (first-part kinds x)) = omega arith in
+          here p q c t s (subst (λ (m : ℕ). Stands tree kinds (suc (a + count b)) m (first-part kinds x)) v u)
+
+  pub comma-stands : {a e : ℕ} {x : Nodes} → Stands tree kinds a e x → Stands tree kinds (a + count (first-part kinds x)) e (from-comma kinds x)
+  unfolding first-part from-comma count
+  comma-stands {a} {e} (ends p) = let u : a + 0 ≡ e = omega (arith, p) in ends u
+  comma-stands {a} {e} (here {k = k} {i = i} {b = b} {x = x} p q c t s r) = go (eqb (shape kinds (node k i b x)) Comma) (comma-stands r)
+    where
+      go : (z : Bool) → Stands tree kinds (suc (a + count b) + count (first-part kinds x)) e (from-comma kinds x)
+          → Stands tree kinds (a + count (if z then none else node k i b (first-part kinds x))) e (if z then node k i b x else from-comma kinds x)
+      go true u = subst (λ (m : ℕ). Stands tree kinds m e (node k i b x)) (omega arith) (here p q c t s r)
+      go false u = subst (λ (m : ℕ). Stands tree kinds m e (from-comma kinds x)) (omega arith) u
+
+-- ---- where the first part ends
+
+pub record PartLoop (tree kinds : List ℕ) (from to at : ℕ) : Type 0 where
+  pub rest : Nodes
+  pub stands : Stands tree kinds at to rest
+  pub room : 3 * to ≤ length tree
+  pub few : to ≤ 65536
+  pub is : (x : Nodes) → Stands tree kinds from to x → from + count (first-part kinds x) ≡ at + count (first-part kinds rest)
+
+first-comma : (kinds : List ℕ) (x : Nodes) → shape kinds x ≡ Comma → count (first-part kinds x) ≡ 0
+unfolding first-part count
+first-comma kinds none e = refl
+first-comma kinds (node k i b x) e = rw (eq-eqb _ _ e)
+
+first-other : (kinds : List ℕ) (x : Nodes) → empty x ≡ false → (shape kinds x ≡ Comma → ⊥)
+    → count (first-part kinds x) ≡ suc (count (below x) + count (first-part kinds (next x)))
+unfolding first-part count empty below next
+first-other kinds none h e = absurd (true≢false h)
+first-other kinds (node k i b x) h e = rw (ne-eqb _ _ e)
+
+first-none : (kinds : List ℕ) (x : Nodes) → x ≡ none → count (first-part kinds x) ≡ 0
+unfolding first-part count
+first-none kinds x e = rw e
+
+module _ {tree kinds : List ℕ} {from to : ℕ} where
+  pub part-start : Formed tree kinds from to → PartLoop tree kinds from to from
+  part-start r = record {
+    rest = r .nodes;
+    stands = r .stands;
+    room = r .room;
+    few = r .few;
+    is = λ x s. ap (λ (y : Nodes). from + count (first-part kinds y)) (unique s (r .stands));
+  }
+
+  module _ {at : ℕ} (lp : PartLoop tree kinds from to at) where
+    pub part-formed : Formed tree kinds at to
+    part-formed = record { nodes = lp .rest; stands = lp .stands; room = lp .room; few = lp .few }
+
+    pub part-last : to ≤ at → Of tree kinds from to (λ x. at ≡ from + count (first-part kinds x))
+    part-last h x s = omega (arith, lp .is x s, first-none kinds (lp .rest) (nothing-left (lp .stands) h))
+
+    module _ (h : at < to) {m : ℕ} (sh : Of tree kinds at to (λ x. m ≡ shape kinds x)) where
+      pub part-comma : m ≡ Comma → Of tree kinds from to (λ x. at ≡ from + count (first-part kinds x))
+      part-comma e x s = omega (arith, lp .is x s, first-comma kinds (lp .rest) (sym (sh (lp .rest) (lp .stands)) ∙ e))
+
+      module _ {e : ℕ} (en : Of tree kinds at to (λ x. e ≡ suc (at + count (below x)))) where
+        pub part-further : at < e
+        part-further = omega (arith, en (lp .rest) (lp .stands))
+
+        pub part-fits : e ≤ to
+        part-fits = omega (arith, en (lp .rest) (lp .stands), first (lp .stands) h .fits)
+
+        pub part-next : (m ≡ Comma → ⊥) → PartLoop tree kinds from to e
+        part-next n = record {
+          rest = next (lp .rest);
+          stands = subst (λ (u : ℕ). Stands tree kinds u to (next (lp .rest))) (sym (en (lp .rest) (lp .stands))) (first (lp .stands) h .rest);
+          room = lp .room;
+          few = lp .few;
+          is = λ x s. omega (
+            arith,
+            lp .is x s,
+            en (lp .rest) (lp .stands),
+            first-other kinds (lp .rest) (first (lp .stands) h .full) (λ q. n (sh (lp .rest) (lp .stands) ∙ q)),
+          );
+        }

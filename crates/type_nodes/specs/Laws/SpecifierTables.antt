@@ -1,0 +1,89 @@
+-- The arms of the specifiers' table of moves, and the words that are counted. Assumes nothing.
+use Prim.Native.Nat.{ℕ, _<_}
+use mathlib.Core.Path.{_≡_, refl, sym, _∙_}
+use mathlib.Core.Bool.{true, false, true≢false, _&&_}
+use mathlib.Core.List.{List, [], _∷_}
+use native.Mathlib.Omega.{arith}
+use lib.Dec.{eqb, ltb}
+use borrow.Author.Tests.{ltb-true, eqb-true}
+use Rattle.rows.specs.Notation.{_is-one-of_}
+use Rattle.rows.specs.Kinds.{Identifier, Scope}
+use Rattle.type_nodes.specs.Shapes.{Parenthesized, TemplateArguments}
+use Rattle.type_nodes.specs.Sets.{parenthesis-words, elaborated-words, is-c-builtin-type-word, is-c-family-declarator-qualifier, builtin-type-words, declarator-qualifiers}
+use Rattle.type_nodes.specs.Moves.{Move, stop, on}
+use Rattle.type_nodes.specs.Specifiers.{Specifiers, specifiers-end, parenthesis-word, qualifier-word, elaborated-word, builtin-word, name-word, specifier-scope, specifier-list, specifier-node}
+use Rattle.type_nodes.specs.RepresentedSpecifiers.{SpecifierMoves}
+use Rattle.type_nodes.specs.Laws.Counts.{all-counted, and-left, and-right}
+use Rattle.type_nodes.specs.declared.specifiers.SpecifierMove.{SpecifierMove}
+
+-- The same move by another name.
+pub moved : {seen : List ℕ} {r : SpecifierMove} {a b : Move Specifiers} → SpecifierMoves seen r a → a ≡ b → SpecifierMoves seen r b
+moved w e = record { is = w .is ∙ e; known = w .known }
+
+-- ---- words that are counted
+
+one-counted : (w : ℕ) (ws : List ℕ) → all-counted ws ≡ true → (w is-one-of ws) ≡ true → w < 29
+unfolding all-counted _is-one-of_
+one-counted w [] a h = absurd (true≢false (sym h))
+one-counted w (v ∷ ws) a h =
+    elim (eqb w v) as (λ t. eqb w v ≡ t → w < 29) [
+      | true ↦ λ e. omega (arith, eqb-true w v e, ltb-true v 29 (and-left (ltb v 29) (all-counted ws) a))
+      | false ↦ λ e. one-counted w ws (and-right (ltb v 29) (all-counted ws) a) (rw e at h)
+    ] refl
+
+pub builtin-counted : (w : ℕ) → is-c-builtin-type-word w ≡ true → w < 29
+unfolding is-c-builtin-type-word builtin-type-words all-counted
+builtin-counted w h = one-counted w builtin-type-words refl h
+
+pub qualifier-counted : (w : ℕ) → is-c-family-declarator-qualifier w ≡ true → w < 29
+unfolding is-c-family-declarator-qualifier declarator-qualifiers all-counted
+qualifier-counted w h = one-counted w declarator-qualifiers refl h
+
+-- ---- the table: where the tests before an arm fail and its own holds, the table gives the arm's move
+
+module _ (lang lw s w right second : ℕ) (st : Specifiers) where
+  abbrev table : Move Specifiers
+  table = specifier-node lang lw s w right second st
+
+  pub specifier-1 : (eqb s Parenthesized && lw is-one-of parenthesis-words) ≡ true → on st ≡ table
+  unfolding specifier-node
+  specifier-1 y = rw y
+
+  module _ (n1 : (eqb s Parenthesized && lw is-one-of parenthesis-words) ≡ false) where
+    pub specifier-2 : (eqb s Identifier && w is-one-of parenthesis-words && eqb right Parenthesized) ≡ true → parenthesis-word w st ≡ table
+    unfolding specifier-node
+    specifier-2 y = rw (n1, y)
+
+    module _ (n2 : (eqb s Identifier && w is-one-of parenthesis-words && eqb right Parenthesized) ≡ false) where
+      pub specifier-3 : (eqb s Identifier && is-c-family-declarator-qualifier w) ≡ true → qualifier-word w st ≡ table
+      unfolding specifier-node
+      specifier-3 y = rw (n1, n2, y)
+
+      module _ (n3 : (eqb s Identifier && is-c-family-declarator-qualifier w) ≡ false) where
+        pub specifier-4 : (eqb s Identifier && w is-one-of elaborated-words) ≡ true → elaborated-word lang w right st ≡ table
+        unfolding specifier-node
+        specifier-4 y = rw (n1, n2, n3, y)
+
+        module _ (n4 : (eqb s Identifier && w is-one-of elaborated-words) ≡ false) where
+          pub specifier-5 : (eqb s Identifier && is-c-builtin-type-word w) ≡ true → builtin-word w st ≡ table
+          unfolding specifier-node
+          specifier-5 y = rw (n1, n2, n3, n4, y)
+
+          module _ (n5 : (eqb s Identifier && is-c-builtin-type-word w) ≡ false) where
+            pub specifier-6 : eqb s Identifier ≡ true → name-word st ≡ table
+            unfolding specifier-node
+            specifier-6 y = rw (n1, n2, n3, n4, n5, y)
+
+            module _ (n6 : eqb s Identifier ≡ false) where
+              pub specifier-7 : eqb s Scope ≡ true → specifier-scope lang right second st ≡ table
+              unfolding specifier-node
+              specifier-7 y = rw (n1, n2, n3, n4, n5, n6, y)
+
+              module _ (n7 : eqb s Scope ≡ false) where
+                pub specifier-8 : eqb s TemplateArguments ≡ true → specifier-list lang st ≡ table
+                unfolding specifier-node
+                specifier-8 y = rw (n1, n2, n3, n4, n5, n6, n7, y)
+
+                pub specifier-9 : eqb s TemplateArguments ≡ false → stop (specifiers-end st) ≡ table
+                unfolding specifier-node
+                specifier-9 n8 = rw (n1, n2, n3, n4, n5, n6, n7, n8)

@@ -1,0 +1,10 @@
+pub mod Shapes
+pub mod Sets
+pub mod AbstractDeclarators
+pub mod Moves
+pub mod Specifiers
+pub mod Stands
+pub mod CommaParts
+pub mod RepresentedSpecifiers
+pub mod Laws
+pub mod Examples

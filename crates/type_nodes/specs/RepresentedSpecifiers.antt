@@ -1,0 +1,48 @@
+-- What the declared types of the specifiers' loop stand for. Assumes nothing.
+use Prim.Native.Nat.{ℕ, _<_}
+use mathlib.Core.Path.{_≡_}
+use mathlib.Core.Bool.{Bool}
+use mathlib.Core.List.{List}
+use lib.ListN.{length, getD}
+use Rattle.type_nodes.specs.Moves.{Move, stop, on, on-if}
+use Rattle.type_nodes.specs.Specifiers.{Specifiers, specifiers, once-more, no-builtin-word}
+use Rattle.type_nodes.specs.declared.specifiers.SpecifierFlags.{SpecifierFlags}
+use Rattle.type_nodes.specs.declared.specifiers.SpecifierMove.{SpecifierMove}
+use Rattle.type_nodes.specs.declared.specifiers.SpecifierMove.the-variants as M
+
+-- The variables of `validate_c_decl_specifiers`.
+abbrev pub specifiers-of : (seen : List ℕ) → SpecifierFlags → Specifiers
+specifiers-of seen f = specifiers seen (f .named) (f .elaborated) (f .«bit_int») (f .scoped)
+
+-- A move holds no counts: it says which word is counted, `seen` the counts before it.
+abbrev pub specifier-move-of : (seen : List ℕ) → SpecifierMove → Move Specifiers
+specifier-move-of seen (M.Stop r) = stop r
+specifier-move-of seen (M.On f) = on (specifiers-of seen f)
+specifier-move-of seen (M.Count w f) = on (specifiers-of (once-more w seen) f)
+
+-- A word that is counted has a count.
+abbrev pub Known : SpecifierMove → Type 0
+Known (M.Stop r) = Unit {0}
+Known (M.On f) = Unit {0}
+Known (M.Count w f) = w < 29
+
+-- Every word of a list has a count.
+abbrev pub Counted : (words : List ℕ) → Type 0
+Counted words = (i : ℕ) → i < length words → getD words i 0 < 29
+
+-- A move of the specifiers, and what lets the code count.
+pub record SpecifierMoves (seen : List ℕ) (r : SpecifierMove) (m : Move Specifiers) : Type 0 where
+  pub is : specifier-move-of seen r ≡ m
+  pub known : Known r
+
+-- A move that serves whatever was counted before.
+abbrev pub Always : SpecifierMove → (arm : (seen : List ℕ) → Move Specifiers) → Type 0
+Always r arm = (seen : List ℕ) → SpecifierMoves seen r (arm seen)
+
+-- Go on if a condition holds, `after` what the variables then are.
+abbrev pub Goes : SpecifierMove → (ok : Bool) → (after : (seen : List ℕ) → Specifiers) → Type 0
+Goes r ok after = Always r (λ seen. on-if ok (after seen))
+
+-- A move that serves whatever was counted before, where `none` says whether that is without a builtin type word.
+abbrev pub Serves : SpecifierMove → (none : Bool) → (arm : (seen : List ℕ) → Move Specifiers) → Type 0
+Serves r none arm = (seen : List ℕ) → none ≡ no-builtin-word seen → SpecifierMoves seen r (arm seen)

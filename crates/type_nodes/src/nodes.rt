@@ -1,0 +1,154 @@
+// The nodes of a level, read from the node records of a tree: a level is a range of node numbers.
+
+use crate::sets::is_declarator_start;
+use crate::shapes::NO_NODE;
+use reader::nodes::NODE_WIDTH;
+use reader::nodes::TOKEN_NODE;
+use rows::kinds::DOT;
+use rows::kinds::IDENTIFIER;
+use rows::kinds::SCOPE;
+use rows::kinds::STAR;
+use rows::word_numbers::NO_WORD;
+ghost use mathlib.Core.Path.{_≡_};
+ghost use Prim.Native.Nat.{_+_, _<_, suc};
+ghost use Rattle.reader.specs.Nodes.{count};
+ghost use Rattle.type_nodes.specs.Shapes.{shape, node-identifier, is-single-token, is-ellipsis};
+ghost use Rattle.type_nodes.specs.AbstractDeclarators.{any, looks-like-abstract-declarator};
+ghost use Rattle.type_nodes.specs.Stands.{Formed, Ready, Of, Finds, below};
+
+// `next`: where the nodes after the node begin.
+pub enum Lookup {
+    Node {
+        shape: u8,
+        token: usize,
+        next: usize,
+    },
+    Nothing,
+}
+
+fn wide(number: u32) -> usize
+    ensures { λ r. ⌜ r ≡ number ⌝ }
+{
+    number as usize
+}
+
+// The shape of the node at a place of a level.
+pub fn shape_at(tree: &[u32], kinds: &[u8], at: usize, to: usize) -> u8
+    requires { ⌜ Formed (now tree) (now kinds) at to ⌝ }
+    ensures { λ r. ⌜ Of (now (tree .entry)) (now (kinds .entry)) at to (λ x. r ≡ shape (now (kinds .entry)) x) ⌝ }
+{
+    if at >= to {
+        return NO_NODE;
+    }
+    let kind = tree[NODE_WIDTH * at];
+    if kind == TOKEN_NODE {
+        let token = wide(tree[NODE_WIDTH * at + 1]);
+        return kinds[token];
+    }
+    NO_NODE + kind as u8
+}
+
+// Where the nodes after the node at a place begin.
+pub fn node_end(tree: &[u32], kinds: &[u8], at: usize, to: usize) -> usize
+    requires { ⌜ (at < to) × Formed (now tree) (now kinds) at to ⌝ }
+    ensures { λ r. ⌜ Of (now (tree .entry)) (now (kinds .entry)) at to (λ x. r ≡ suc (at + count (below x))) ⌝ }
+{
+    at + wide(tree[NODE_WIDTH * at + 2])
+}
+
+pub fn node_at(tree: &[u32], kinds: &[u8], at: usize, to: usize) -> Lookup
+    requires { ⌜ Formed (now tree) (now kinds) at to ⌝ }
+    ensures { λ r. ⌜ Of (now (tree .entry)) (now (kinds .entry)) at to (λ x. Finds (now (kinds .entry)) at r x) ⌝ }
+{
+    if at >= to {
+        return Lookup::Nothing;
+    }
+    let shape = shape_at(tree, kinds, at, to);
+    let token = wide(tree[NODE_WIDTH * at + 1]);
+    let next = node_end(tree, kinds, at, to);
+    Lookup::Node { shape, token, next }
+}
+
+// The word number of the node at a place, if it is an identifier.
+pub fn node_identifier(tree: &[u32], kinds: &[u8], words: &[u8], at: usize, to: usize) -> u8
+    requires { ⌜ Ready (now tree) (now kinds) (now words) at to ⌝ }
+    ensures { λ r. ⌜ Of (now (tree .entry)) (now (kinds .entry)) at to (λ x. r ≡ node-identifier (now (kinds .entry)) (now (words .entry)) x) ⌝ }
+{
+    let found = node_at(tree, kinds, at, to);
+    let Lookup::Node {
+        shape,
+        token,
+        next: _,
+    } = found
+    else {
+        return NO_WORD;
+    };
+    if shape == IDENTIFIER {
+        return words[token];
+    }
+    NO_WORD
+}
+
+pub fn is_single_token(tree: &[u32], kinds: &[u8], kind: u8, from: usize, to: usize) -> bool
+    requires { ⌜ (kind < 58) × Formed (now tree) (now kinds) from to ⌝ }
+    ensures { λ r. ⌜ Of (now (tree .entry)) (now (kinds .entry)) from to (λ x. r ≡ is-single-token (now (kinds .entry)) kind x) ⌝ }
+{
+    let found = node_at(tree, kinds, from, to);
+    let Lookup::Node {
+        shape,
+        token: _,
+        next,
+    } = found
+    else {
+        return false;
+    };
+    (shape == kind) & (next == to)
+}
+
+pub fn is_ellipsis(tree: &[u32], kinds: &[u8], from: usize, to: usize) -> bool
+    requires { ⌜ Formed (now tree) (now kinds) from to ⌝ }
+    ensures { λ r. ⌜ Of (now (tree .entry)) (now (kinds .entry)) from to (λ x. r ≡ is-ellipsis (now (kinds .entry)) x) ⌝ }
+{
+    if shape_at(tree, kinds, from, to) != DOT {
+        return false;
+    }
+    let second = node_end(tree, kinds, from, to);
+    if shape_at(tree, kinds, second, to) != DOT {
+        return false;
+    }
+    let third = node_end(tree, kinds, second, to);
+    if shape_at(tree, kinds, third, to) != DOT {
+        return false;
+    }
+    node_end(tree, kinds, third, to) == to
+}
+
+// Some node of a level has a shape.
+fn any(tree: &[u32], kinds: &[u8], wanted: u8, from: usize, to: usize) -> bool
+    requires { ⌜ Formed (now tree) (now kinds) from to ⌝ }
+    ensures { λ r. ⌜ Of (now (tree .entry)) (now (kinds .entry)) from to (λ x. r ≡ any (now (kinds .entry)) wanted x) ⌝ }
+{
+    let mut at = from;
+    while at < to {
+        let shape = shape_at(tree, kinds, at, to);
+        let next = node_end(tree, kinds, at, to);
+        if shape == wanted {
+            return true;
+        }
+        at = next;
+    }
+    false
+}
+
+pub fn looks_like_abstract_declarator(tree: &[u32], kinds: &[u8], from: usize, to: usize) -> bool
+    requires { ⌜ Formed (now tree) (now kinds) from to ⌝ }
+    ensures { λ r. ⌜ Of (now (tree .entry)) (now (kinds .entry)) from to (λ x. r ≡ looks-like-abstract-declarator (now (kinds .entry)) x) ⌝ }
+{
+    if is_declarator_start(shape_at(tree, kinds, from, to)) {
+        return true;
+    }
+    if any(tree, kinds, SCOPE, from, to) {
+        return any(tree, kinds, STAR, from, to);
+    }
+    false
+}

@@ -1,0 +1,319 @@
+// The declaration specifiers at the head of a C or C++ type name: `validate_c_decl_specifiers`, and what its loop does at a node, one arm of the
+// original's `match` after another. `before`: word of the node before the node; `right`, `second`: shape and word of the node after it. `seen`: how
+// often each builtin type word and each qualifier was seen, by word number; `none`: no builtin type word was, kept beside the counts so that a name
+// need not look through them.
+
+use crate::combination::has;
+use crate::combination::validate_c_bit_int_sign;
+use crate::combination::validate_c_builtin_combination;
+use crate::nodes::node_end;
+use crate::nodes::node_identifier;
+use crate::nodes::shape_at;
+use crate::sets::is_c_builtin_type_word;
+use crate::sets::is_c_family_declarator_qualifier;
+use crate::sets::is_cpp_elaborated_word;
+use crate::sets::is_elaborated_word;
+use crate::sets::is_keyword;
+use crate::sets::is_parenthesis_word;
+use crate::sets::is_sign;
+use crate::shapes::PARENTHESIZED;
+use crate::shapes::TEMPLATE_ARGUMENTS;
+use rows::kinds::IDENTIFIER;
+use rows::kinds::SCOPE;
+use rows::languages::C;
+use rows::languages::CPP;
+use rows::word_numbers::BIT_INT;
+use rows::word_numbers::NO_WORD;
+use rows::word_numbers::exactly;
+ghost use mathlib.Core.Path.{_≡_};
+ghost use Prim.Native.Nat.{_<_};
+ghost use lib.Dec.{eqb};
+ghost use Rattle.rows.specs.Notation.{if_then_else_};
+ghost use Rattle.rows.specs.Words.{exactly, «_BitInt»};
+ghost use Rattle.type_nodes.specs.Shapes.{exact-word};
+ghost use Rattle.type_nodes.specs.Specifiers.{once-more, no-builtin-word, validate-c-bit-int-sign, specifiers-end, parenthesis-word, qualifier-word, elaborated-word, builtin-word, name-word, specifier-scope, specifier-list, specifier-node, validate-c-decl-specifiers};
+ghost use Rattle.type_nodes.specs.Stands.{Ready, Of};
+ghost use Rattle.type_nodes.specs.RepresentedSpecifiers.{specifiers-of, SpecifierMoves, Always, Goes, Serves};
+
+// What was seen besides the words that are counted.
+pub struct SpecifierFlags {
+    pub named: bool,
+    pub elaborated: bool,
+    pub bit_int: bool,
+    pub scoped: bool,
+}
+
+const NO_FLAGS: SpecifierFlags = SpecifierFlags {
+    named: false,
+    elaborated: false,
+    bit_int: false,
+    scoped: false,
+};
+
+// `Count`: go on, with the word seen once more. A move does not hold the counts, since an enum can hold no array.
+pub enum SpecifierMove {
+    Stop(bool),
+    On(SpecifierFlags),
+    Count(u8, SpecifierFlags),
+}
+
+// Which known word the node at a place is exactly.
+pub fn exact_word(tree: &[u32], kinds: &[u8], words: &[u8], at: usize, to: usize) -> u8
+    requires { ⌜ Ready (now tree) (now kinds) (now words) at to ⌝ }
+    ensures { λ r. ⌜ Of (now (tree .entry)) (now (kinds .entry)) at to (λ x. r ≡ exact-word (now (kinds .entry)) (now (words .entry)) x) ⌝ }
+{
+    exactly(node_identifier(tree, kinds, words, at, to))
+}
+
+// Whether the builtin type words may stand before such a word and its parentheses.
+fn builtin_words_are_valid(word: u8, seen: &[usize; 29], none: bool) -> bool
+    requires { ⌜ none ≡ no-builtin-word (now seen) ⌝ }
+    ensures { λ r. ⌜ r ≡ (if eqb word «_BitInt» then validate-c-bit-int-sign (now (seen .entry)) else no-builtin-word (now (seen .entry))) ⌝ }
+{
+    if word == BIT_INT {
+        return validate_c_bit_int_sign(seen);
+    }
+    none
+}
+
+fn on_if(ok: bool, flags: SpecifierFlags) -> SpecifierMove
+    ensures { λ r. ⌜ Goes r ok (λ seen. specifiers-of seen flags) ⌝ }
+{
+    if ok {
+        return SpecifierMove::On(flags);
+    }
+    SpecifierMove::Stop(false)
+}
+
+fn count_if(ok: bool, word: u8, flags: SpecifierFlags) -> SpecifierMove
+    requires { ⌜ word < 29 ⌝ }
+    ensures { λ r. ⌜ Goes r ok (λ seen. specifiers-of (once-more word seen) flags) ⌝ }
+{
+    if ok {
+        return SpecifierMove::Count(word, flags);
+    }
+    SpecifierMove::Stop(false)
+}
+
+fn specifiers_end(seen: &[usize; 29], none: bool, flags: SpecifierFlags) -> bool
+    requires { ⌜ none ≡ no-builtin-word (now seen) ⌝ }
+    ensures { λ r. ⌜ r ≡ specifiers-end (specifiers-of (now (seen .entry)) flags) ⌝ }
+{
+    if flags.scoped {
+        return false;
+    }
+    if flags.bit_int {
+        return validate_c_bit_int_sign(seen);
+    }
+    if !none {
+        return validate_c_builtin_combination(seen);
+    }
+    flags.named | flags.elaborated
+}
+
+// A word that makes a specifier with the parentheses after it.
+fn parenthesis_word(
+    word: u8,
+    seen: &[usize; 29],
+    none: bool,
+    flags: SpecifierFlags,
+) -> SpecifierMove
+    requires { ⌜ none ≡ no-builtin-word (now seen) ⌝ }
+    ensures { λ r. ⌜ SpecifierMoves (now (seen .entry)) r (parenthesis-word word (specifiers-of (now (seen .entry)) flags)) ⌝ }
+{
+    let valid = builtin_words_are_valid(word, seen, none);
+    on_if(
+        !flags.named & !flags.elaborated & valid,
+        SpecifierFlags {
+            named: true,
+            elaborated: flags.elaborated,
+            bit_int: word == BIT_INT,
+            scoped: flags.scoped,
+        },
+    )
+}
+
+fn qualifier_word(word: u8, seen: &[usize; 29], flags: SpecifierFlags) -> SpecifierMove
+    requires { ⌜ word < 29 ⌝ }
+    ensures { λ r. ⌜ SpecifierMoves (now (seen .entry)) r (qualifier-word word (specifiers-of (now (seen .entry)) flags)) ⌝ }
+{
+    let new = !has(seen, word);
+    count_if(new, word, flags)
+}
+
+// The first word of an elaborated name.
+fn elaborated_word(
+    language: u8,
+    word: u8,
+    right: u8,
+    none: bool,
+    flags: SpecifierFlags,
+) -> SpecifierMove
+    ensures { λ r. ⌜ Serves r none (λ seen. elaborated-word language word right (specifiers-of seen flags)) ⌝ }
+{
+    let foreign = (language == C) & is_cpp_elaborated_word(word);
+    on_if(
+        !foreign & !flags.named & none & !flags.elaborated & (right == IDENTIFIER),
+        SpecifierFlags {
+            named: flags.named,
+            elaborated: true,
+            bit_int: flags.bit_int,
+            scoped: flags.scoped,
+        },
+    )
+}
+
+fn builtin_word(word: u8, flags: SpecifierFlags) -> SpecifierMove
+    requires { ⌜ word < 29 ⌝ }
+    ensures { λ r. ⌜ Always r (λ seen. builtin-word word (specifiers-of seen flags)) ⌝ }
+{
+    let sign = flags.bit_int & is_sign(word);
+    count_if(
+        !flags.elaborated & (!flags.named | sign),
+        word,
+        SpecifierFlags {
+            named: flags.named,
+            elaborated: flags.elaborated,
+            bit_int: flags.bit_int,
+            scoped: false,
+        },
+    )
+}
+
+// Any other word: a name.
+fn name_word(none: bool, flags: SpecifierFlags) -> SpecifierMove
+    ensures { λ r. ⌜ Serves r none (λ seen. name-word (specifiers-of seen flags)) ⌝ }
+{
+    on_if(
+        none & (!flags.named | flags.scoped | flags.elaborated),
+        SpecifierFlags {
+            named: true,
+            elaborated: flags.elaborated,
+            bit_int: flags.bit_int,
+            scoped: false,
+        },
+    )
+}
+
+// `::` after a name, or leading: then it must introduce a name and no keyword.
+fn specifier_scope(
+    language: u8,
+    right: u8,
+    second: u8,
+    none: bool,
+    flags: SpecifierFlags,
+) -> SpecifierMove
+    ensures { λ r. ⌜ Serves r none (λ seen. specifier-scope language right second (specifiers-of seen flags)) ⌝ }
+{
+    let leading = !flags.elaborated & none & (right == IDENTIFIER) & !is_keyword(second);
+    on_if(
+        (language == CPP) & !flags.scoped & (flags.named | leading),
+        SpecifierFlags {
+            named: flags.named,
+            elaborated: flags.elaborated,
+            bit_int: flags.bit_int,
+            scoped: true,
+        },
+    )
+}
+
+// A template argument list.
+fn specifier_list(language: u8, flags: SpecifierFlags) -> SpecifierMove
+    ensures { λ r. ⌜ Always r (λ seen. specifier-list language (specifiers-of seen flags)) ⌝ }
+{
+    on_if((language == CPP) & flags.named & !flags.scoped, flags)
+}
+
+// The last line is the original's `break`.
+fn specifier_node(
+    language: u8,
+    before: u8,
+    shape: u8,
+    word: u8,
+    right: u8,
+    second: u8,
+    seen: &[usize; 29],
+    none: bool,
+    flags: SpecifierFlags,
+) -> SpecifierMove
+    requires { ⌜ none ≡ no-builtin-word (now seen) ⌝ }
+    ensures { λ r. ⌜ SpecifierMoves (now (seen .entry)) r (specifier-node language before shape word right second (specifiers-of (now (seen .entry)) flags)) ⌝ }
+{
+    let identifier = shape == IDENTIFIER;
+    if (shape == PARENTHESIZED) & is_parenthesis_word(before) {
+        return SpecifierMove::On(flags);
+    }
+    if identifier & is_parenthesis_word(word) & (right == PARENTHESIZED) {
+        return parenthesis_word(word, seen, none, flags);
+    }
+    if identifier & is_c_family_declarator_qualifier(word) {
+        return qualifier_word(word, seen, flags);
+    }
+    if identifier & is_elaborated_word(word) {
+        return elaborated_word(language, word, right, none, flags);
+    }
+    if identifier & is_c_builtin_type_word(word) {
+        return builtin_word(word, flags);
+    }
+    if identifier {
+        return name_word(none, flags);
+    }
+    if shape == SCOPE {
+        return specifier_scope(language, right, second, none, flags);
+    }
+    if shape == TEMPLATE_ARGUMENTS {
+        return specifier_list(language, flags);
+    }
+    SpecifierMove::Stop(specifiers_end(seen, none, flags))
+}
+
+pub fn validate_c_decl_specifiers(
+    language: u8,
+    tree: &[u32],
+    kinds: &[u8],
+    words: &[u8],
+    from: usize,
+    to: usize,
+) -> bool
+    requires { ⌜ Ready (now tree) (now kinds) (now words) from to ⌝ }
+    ensures { λ r. ⌜ Of (now (tree .entry)) (now (kinds .entry)) from to (λ x. r ≡ validate-c-decl-specifiers language (now (kinds .entry)) (now (words .entry)) x) ⌝ }
+{
+    let mut seen: [usize; 29] = [0; 29];
+    let mut none = true;
+    let mut flags = NO_FLAGS;
+    let mut before = NO_WORD;
+    let mut at = from;
+    while at < to {
+        let word = exact_word(tree, kinds, words, at, to);
+        let shape = shape_at(tree, kinds, at, to);
+        let next = node_end(tree, kinds, at, to);
+        let second = exact_word(tree, kinds, words, next, to);
+        let right = shape_at(tree, kinds, next, to);
+        let step = specifier_node(
+            language,
+            before,
+            shape,
+            word,
+            right,
+            second,
+            &seen,
+            none,
+            flags,
+        );
+        match step {
+            SpecifierMove::Stop(answer) => return answer,
+            SpecifierMove::On(after) => {
+                flags = after;
+            }
+            SpecifierMove::Count(counted, after) => {
+                let i = counted as usize;
+                seen[i] += 1;
+                none = none & !is_c_builtin_type_word(counted);
+                flags = after;
+            }
+        }
+        before = word;
+        at = next;
+    }
+    specifiers_end(&seen, none, flags)
+}
