@@ -8,7 +8,7 @@ use Rattle.rows.specs.Notation.{_is-one-of_}
 use Rattle.rows.specs.Languages.{C, Cpp, Fortran}
 use Rattle.rows.specs.Kinds.{Integer, Boolean, LeftParen, RightParen, LeftBracket, RightBracket, Comma, Question, Colon, Scope, Dot}
 use Rattle.rows.specs.Kinds.{Percent, Plus, Minus, Star, BitwiseNot, Ampersand, LogicalAnd, LogicalNeqv, Equal, Less, Greater, ShiftRight, PlusPlus}
-use Rattle.rows.specs.Words.{void, char, int, double, long, unsigned, const, noexcept, typeof, «_BitInt», type, precision, exactly, ignoring-case}
+use Rattle.rows.specs.Words.{void, char, int, double, long, unsigned, const, noexcept, decltype, typeof, «_BitInt», type, precision, exactly, ignoring-case}
 use Rattle.reader.specs.Nodes.{count}
 use Rattle.reader.specs.Reading.{Got, got, bad, kindAt, reading}
 use Rattle.type_nodes.specs.Shapes.{shape-of, empty, next, arguments-of, prepend, parts-are-full, shape, node-identifier, is-single-token}
@@ -49,7 +49,7 @@ unfoldable pub judged : (lang : ℕ) → List Token → Said
 unfolding judged-row kinds-of words-of
 judged lang row = judged-row lang (kinds-of row) (words-of row)
 
--- ---- C: declaration specifiers
+-- ---- C and C++: declaration specifiers
 
 -- `int`
 one-word : judged C (word int ∷ []) ≡ holds 2
@@ -75,6 +75,16 @@ typeof-type = refl
 typeof-expression : judged C (word typeof ∷ token LeftParen ∷ name ∷ token Plus ∷ token Integer ∷ token RightParen ∷ []) ≡ holds 8
 unfolding judged
 typeof-expression = refl
+
+-- `decltype(a)`
+decltype-in-c : judged C (word decltype ∷ token LeftParen ∷ name ∷ token RightParen ∷ []) ≡ fails 4
+unfolding judged
+decltype-in-c = refl
+
+-- `decltype(a)`
+decltype-in-cpp : judged Cpp (word decltype ∷ token LeftParen ∷ name ∷ token RightParen ∷ []) ≡ holds 5
+unfolding judged
+decltype-in-cpp = refl
 
 -- ---- C and C++: declarators
 
