@@ -53,17 +53,17 @@ use Rattle.structure.proofs.checks.+arguments+either+parameter+test+val
 use Rattle.structure.proofs.expressions.expression_end.Reads as expression-end-reads
 use Rattle.structure.proofs.expressions.expression_node.Reads as expression-node-reads
 use Rattle.structure.proofs.moves.plain.Reads as plain-reads
+use Rattle.structure.proofs.tables.abstract_declarator_node.Reads as abstract-declarator-node-reads
+use Rattle.structure.proofs.tables.c_family_node.Reads as c-family-node-reads
 use Rattle.type_nodes.proofs.nodes.is_ellipsis.Reads as is-ellipsis-reads
 use Rattle.type_nodes.proofs.nodes.is_single_token.Reads as is-single-token-reads
 use Rattle.type_nodes.proofs.nodes.looks_like_abstract_declarator.Reads as looks-like-abstract-declarator-reads
 use Rattle.type_nodes.proofs.nodes.node_end.Reads as node-end-reads
-use Rattle.type_nodes.proofs.split_on_commas.parts_are_full.Reads as parts-are-full-reads
 use Rattle.type_nodes.proofs.nodes.shape_at.Reads as shape-at-reads
-use Rattle.type_nodes.proofs.split_on_commas.part_end.Reads as part-end-reads
 use Rattle.type_nodes.proofs.specifiers.exact_word.Reads as exact-word-reads
 use Rattle.type_nodes.proofs.specifiers.validate_c_decl_specifiers.Reads as validate-c-decl-specifiers-reads
-use Rattle.structure.proofs.tables.abstract_declarator_node.Reads as abstract-declarator-node-reads
-use Rattle.structure.proofs.tables.c_family_node.Reads as c-family-node-reads
+use Rattle.type_nodes.proofs.split_on_commas.part_end.Reads as part-end-reads
+use Rattle.type_nodes.proofs.split_on_commas.parts_are_full.Reads as parts-are-full-reads
 use Rattle.structure.proofs.checks.+arguments+either+parameter+test+validate_abstract_declarator+validate_c_family_type+validate_cpp_template_argument+validate_expression+validate_parameter_type_list.{
   statement,
 }

@@ -20,10 +20,10 @@ use Rattle.structure.proofs.fortran.validate_fortran_type.Lts as lts
 use Rattle.structure.proofs.fortran.fortran_node.Reads as fortran-node-reads
 use Rattle.structure.proofs.fortran.validate_fortran_type_head.Reads as validate-fortran-type-head-reads
 use Rattle.structure.proofs.moves.plain.Reads as plain-reads
+use Rattle.structure.proofs.selectors.validate_fortran_selector_list.Reads as validate-fortran-selector-list-reads
 use Rattle.type_nodes.proofs.nodes.is_single_token.Reads as is-single-token-reads
 use Rattle.type_nodes.proofs.nodes.node_end.Reads as node-end-reads
 use Rattle.type_nodes.proofs.nodes.shape_at.Reads as shape-at-reads
-use Rattle.structure.proofs.selectors.validate_fortran_selector_list.Reads as validate-fortran-selector-list-reads
 
 abbrev Inv-loop : tie.InvT-loop
 Inv-loop language tree kinds words from to allowed left₀ st₀ at₀ left st at = InFortran language tree kinds words from to allowed left st at

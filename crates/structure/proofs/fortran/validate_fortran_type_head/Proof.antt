@@ -9,8 +9,8 @@ use Rattle.structure.proofs.fortran.validate_fortran_type_head.Statemen
 use Rattle.structure.proofs.fortran.validate_fortran_type_head.Tie as tie
 use Rattle.structure.proofs.fortran.validate_fortran_type_head.Reads as reads
 use Rattle.structure.proofs.fortran.validate_fortran_type_head.Lts as lts
-use Rattle.structure.proofs.fortran.head_holds.Reads as head-holds-reads
 use Rattle.rows.proofs.word_numbers.ignoring_case.Reads as ignoring-case-reads
+use Rattle.structure.proofs.fortran.head_holds.Reads as head-holds-reads
 use Rattle.type_nodes.proofs.nodes.node_at.Reads as node-at-reads
 use Rattle.type_nodes.proofs.nodes.node_identifier.Reads as node-identifier-reads
 use Rattle.type_nodes.proofs.nodes.shape_at.Reads as shape-at-reads

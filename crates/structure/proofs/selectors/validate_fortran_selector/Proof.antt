@@ -9,9 +9,9 @@ use Rattle.structure.proofs.selectors.validate_fortran_selector.Stateme
 use Rattle.structure.proofs.selectors.validate_fortran_selector.Tie as tie
 use Rattle.structure.proofs.selectors.validate_fortran_selector.Reads as reads
 use Rattle.structure.proofs.selectors.validate_fortran_selector.Lts as lts
+use Rattle.structure.proofs.selectors.validate_fortran_selector_value.Reads as validate-fortran-selector-value-reads
 use Rattle.type_nodes.proofs.nodes.node_end.Reads as node-end-reads
 use Rattle.type_nodes.proofs.nodes.shape_at.Reads as shape-at-reads
-use Rattle.structure.proofs.selectors.validate_fortran_selector_value.Reads as validate-fortran-selector-value-reads
 
 shape-at-requires : tie.Need-shape-at-requires
 shape-at-requires c κs = c .before .before .before .pre .formed

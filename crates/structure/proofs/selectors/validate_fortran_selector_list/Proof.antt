@@ -15,10 +15,10 @@ use Rattle.structure.proofs.selectors.validate_fortran_selector_list.St
 use Rattle.structure.proofs.selectors.validate_fortran_selector_list.Tie as tie
 use Rattle.structure.proofs.selectors.validate_fortran_selector_list.Reads as reads
 use Rattle.structure.proofs.selectors.validate_fortran_selector_list.Lts as lts
-use Rattle.type_nodes.proofs.nodes.node_end.Reads as node-end-reads
-use Rattle.type_nodes.proofs.split_on_commas.parts_are_full.Reads as parts-are-full-reads
-use Rattle.type_nodes.proofs.split_on_commas.part_end.Reads as part-end-reads
 use Rattle.structure.proofs.selectors.validate_fortran_selector.Reads as validate-fortran-selector-reads
+use Rattle.type_nodes.proofs.nodes.node_end.Reads as node-end-reads
+use Rattle.type_nodes.proofs.split_on_commas.part_end.Reads as part-end-reads
+use Rattle.type_nodes.proofs.split_on_commas.parts_are_full.Reads as parts-are-full-reads
 
 abbrev Inv-loop : tie.InvT-loop
 Inv-loop language tree kinds words from to allowed left₀ at₀ left at = InParts (validate-fortran-selector language kinds words (checked language kinds words)) (validate-fortran-selector-list language kinds words (checked language kinds words)) tree kinds from to allowed left at

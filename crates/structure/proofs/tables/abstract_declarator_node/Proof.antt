@@ -11,10 +11,10 @@ use Rattle.structure.proofs.tables.abstract_declarator_node.Reads as re
 use Rattle.structure.proofs.tables.abstract_declarator_node.Lts as lts
 use Rattle.structure.proofs.moves.declarator_inside_if.Reads as declarator-inside-if-reads
 use Rattle.structure.proofs.moves.declarator_on_if.Reads as declarator-on-if-reads
-use Rattle.type_nodes.proofs.sets.is_c_family_declarator_qualifier.Reads as is-c-family-declarator-qualifier-reads
-use Rattle.type_nodes.proofs.sets.is_reference_operator.Reads as is-reference-operator-reads
 use Rattle.structure.proofs.tables.is_part_of_name.Reads as is-part-of-name-reads
 use Rattle.structure.proofs.tables.scope_has_valid_neighbors.Reads as scope-has-valid-neighbors-reads
+use Rattle.type_nodes.proofs.sets.is_c_family_declarator_qualifier.Reads as is-c-family-declarator-qualifier-reads
+use Rattle.type_nodes.proofs.sets.is_reference_operator.Reads as is-reference-operator-reads
 
 declarator-on-if-requires : tie.Need-declarator-on-if-requires
 declarator-on-if-requires c κs = search needs

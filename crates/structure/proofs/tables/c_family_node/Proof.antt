@@ -11,10 +11,10 @@ use Rattle.structure.proofs.tables.c_family_node.Reads as reads
 use Rattle.structure.proofs.tables.c_family_node.Lts as lts
 use Rattle.structure.proofs.moves.type_inside_if.Reads as type-inside-if-reads
 use Rattle.structure.proofs.moves.type_on_if.Reads as type-on-if-reads
-use Rattle.type_nodes.proofs.sets.is_c_family_declarator_qualifier.Reads as is-c-family-declarator-qualifier-reads
-use Rattle.type_nodes.proofs.sets.is_reference_operator.Reads as is-reference-operator-reads
 use Rattle.structure.proofs.tables.c_family_group.Reads as c-family-group-reads
 use Rattle.structure.proofs.tables.scope_has_valid_neighbors.Reads as scope-has-valid-neighbors-reads
+use Rattle.type_nodes.proofs.sets.is_c_family_declarator_qualifier.Reads as is-c-family-declarator-qualifier-reads
+use Rattle.type_nodes.proofs.sets.is_reference_operator.Reads as is-reference-operator-reads
 
 is-c-family-declarator-qualifier-requires : tie.Need-is-c-family-declarator-qualifier-requires
 is-c-family-declarator-qualifier-requires c κs = search needs
