@@ -1,20 +1,20 @@
-use type_name::*;
+use std::error::Error;
 
-fn main() -> Result<(), Refusal> {
-    let mut row = Row::new(Head {
-        profile: HostLanguageProfile::Cpp(CppStandard::Cpp17),
-        structure: true,
-        allowance: 1_000,
-    });
-    row.push(TokenKind::Identifier, "Lane", 0..4);
-    row.push(TokenKind::Less, "<", 4..5);
-    row.push(TokenKind::Identifier, "Key", 5..8);
-    row.push(TokenKind::Greater, ">", 8..9);
+use type_name::{Head, Row, TokenKind, parse_type_name, tree_for};
 
-    let mut tree = tree_for(row.bytes());
-    let accepted = parse_type_name(row.bytes(), &mut tree)?;
-    for (level, node) in accepted.top_level(&tree).with_levels() {
-        println!("{level} {:?} {}", node.kind, node.token);
+fn main() -> Result<(), Box<dyn Error>> {
+    // C++17 with the structure check and an ample allowance.
+    let mut row = Row::new(Head::default());
+    row.push(TokenKind::Identifier, "Lane", 0..4)?;
+    row.push(TokenKind::Less, "<", 4..5)?;
+    row.push(TokenKind::Identifier, "Key", 5..8)?;
+    row.push(TokenKind::Greater, ">", 8..9)?;
+
+    let mut buffer = tree_for(row.bytes());
+    let tree = parse_type_name(row.bytes(), &mut buffer)?;
+    for (level, node) in tree.with_levels() {
+        let token = node.token;
+        println!("{level} {:?} {} {:?}", node.kind, token.number, token.word);
     }
     Ok(())
 }

@@ -1,37 +1,18 @@
-//! What comes of a row.
+//! Why a type name is refused.
 
-use std::error::Error;
-use std::fmt;
+use core::error::Error;
+use core::fmt;
 
+use crate::limits::{MOST_BYTES, MOST_NESTING, MOST_TOKENS, NO_TOKEN, NUMBERS_PER_TOKEN};
 use crate::numbered::numbered;
-use crate::tree::Nodes;
-
-/// The type name is accepted; its tree is in the buffer.
-#[derive(Debug, Clone, Copy, PartialEq, Eq)]
-pub struct Accepted {
-    /// How many node records the tree has.
-    pub nodes: u32,
-    /// What reading and checking took, of the allowance.
-    pub steps: u32,
-}
-
-impl Accepted {
-    /// The nodes of the top level, each with what is below it.
-    ///
-    /// # Panics
-    ///
-    /// If the buffer is shorter than the tree. Of a buffer that this answer did not come with, the nodes make no sense, and
-    /// going through them may panic.
-    pub fn top_level(self, tree: &[u32]) -> Nodes<'_> {
-        Nodes::of_records(tree, self.nodes as usize)
-    }
-}
 
 /// The type name is refused.
 #[derive(Debug, Clone, Copy, PartialEq, Eq)]
+#[must_use]
 pub struct Refusal {
+    /// Why.
     pub error: TypeNameError,
-    /// The token at fault, where the error names one: 11 to 16.
+    /// The number of the token at fault, where the error names one: 11 to 16.
     pub token: Option<u32>,
     /// What more the error says: for `InvalidRecord` the byte offset of the record, else see [`Refusal::expected`] and
     /// [`Refusal::feature`]; 0 for all others.
@@ -40,12 +21,9 @@ pub struct Refusal {
     pub steps: u32,
 }
 
-/// Stands where a refusal names no token.
-const NO_TOKEN: u32 = 65_535;
-
 impl Refusal {
     pub(crate) fn of_numbers(number: u32, token: u32, detail: u32, steps: u32) -> Self {
-        let error = TypeNameError::numbered(number);
+        let error = TypeNameError::try_from(number);
         Self {
             error: error.expect("the proved reader refuses with numbers of the table alone"),
             token: (token != NO_TOKEN).then_some(token),
@@ -55,32 +33,49 @@ impl Refusal {
     }
 
     /// For `UnexpectedClosingDelimiter` the innermost bracket that was open, if one was.
+    #[must_use]
     pub fn expected(self) -> Option<Delimiter> {
-        match (self.error, self.detail) {
-            (TypeNameError::UnexpectedClosingDelimiter, 1) => Some(Delimiter::Parenthesis),
-            (TypeNameError::UnexpectedClosingDelimiter, 2) => Some(Delimiter::Bracket),
+        match self.error {
+            TypeNameError::UnexpectedClosingDelimiter => Delimiter::try_from(self.detail).ok(),
             _ => None,
         }
     }
 
     /// For `NotAvailableInProfile` what the standard lacks.
+    #[must_use]
     pub fn feature(self) -> Option<Feature> {
         match self.error {
-            TypeNameError::NotAvailableInProfile => Feature::numbered(self.detail),
+            TypeNameError::NotAvailableInProfile => Feature::try_from(self.detail).ok(),
             _ => None,
+        }
+    }
+
+    /// What the detail says, as the end of a sentence.
+    fn write_detail(self, to: &mut fmt::Formatter<'_>) -> fmt::Result {
+        match self.error {
+            TypeNameError::InvalidRecord => write!(to, ", at byte {}", self.detail),
+            TypeNameError::AllowancePassed => write!(to, " of {} steps", self.steps),
+            TypeNameError::UnexpectedClosingDelimiter => match self.expected() {
+                Some(open) => write!(to, "; {open} was open"),
+                None => to.write_str("; none was open"),
+            },
+            TypeNameError::NotAvailableInProfile => match self.feature() {
+                Some(feature) => write!(to, ": {feature}"),
+                None => Ok(()),
+            },
+            _ => Ok(()),
         }
     }
 }
 
+/// A sentence with the refusal's number, and with its token and detail where it has them.
 impl fmt::Display for Refusal {
     fn fmt(&self, to: &mut fmt::Formatter<'_>) -> fmt::Result {
-        write!(to, "refusal {}, {:?}", self.error.number(), self.error)?;
-        if let Some(token) = self.token {
-            write!(to, ", token {token}")?;
-        }
-        match self.feature() {
-            Some(feature) => write!(to, ", {feature:?}"),
-            None => write!(to, ", detail {}", self.detail),
+        write!(to, "refusal {}: {}", self.error.number(), self.error)?;
+        self.write_detail(to)?;
+        match self.token {
+            Some(token) => write!(to, " (token {token})"),
+            None => Ok(()),
         }
     }
 }
@@ -89,19 +84,20 @@ impl Error for Refusal {}
 
 numbered! {
     /// Why a type name is refused, in the original's names; 1 to 6 and 25 are added, and each reason of its `InvalidSyntax` is
-    /// a case of its own.
+    /// a case of its own. `docs/FORMAT.md` has the table.
+    #[non_exhaustive]
     TypeNameError {
-        /// The file has more than 65,536 bytes.
+        /// The file has more than [`MOST_BYTES`] bytes.
         FileTooLong = 1,
-        /// The head record is short or wrong.
+        /// The head record is cut off, or its length, kind or structure flag is wrong.
         InvalidHead = 2,
-        /// No such language or standard.
+        /// The head record names no language or standard.
         UnknownProfile = 3,
         /// A token record is cut off, or its length, kind, span or word is out of range.
         InvalidRecord = 4,
-        /// There are more than 1,024 tokens.
+        /// There are more than [`MOST_TOKENS`] tokens.
         TooManyRecords = 5,
-        /// The tree buffer has fewer than 6 numbers a token.
+        /// The tree buffer has fewer than [`NUMBERS_PER_TOKEN`] numbers a token.
         ShortBuffer = 6,
         /// There is no token.
         Empty = 10,
@@ -121,7 +117,7 @@ numbered! {
         MissingTypeWord = 17,
         /// The row begins or ends with a token that no type name begins or ends with.
         InvalidBoundaryToken = 18,
-        /// Brackets and lists nest deeper than 64.
+        /// Groups and lists nest deeper than [`MOST_NESTING`].
         NestingLimitExceeded = 20,
         /// A list took the closer of a group, which is not closed therefore.
         UnterminatedGroup = 21,
@@ -138,25 +134,130 @@ numbered! {
     }
 }
 
+/// One sentence, without number, token and detail.
+impl fmt::Display for TypeNameError {
+    fn fmt(&self, to: &mut fmt::Formatter<'_>) -> fmt::Result {
+        match self {
+            Self::FileTooLong => write!(to, "the file has more than {MOST_BYTES} bytes"),
+            Self::TooManyRecords => write!(to, "the row has more than {MOST_TOKENS} tokens"),
+            Self::ShortBuffer => {
+                write!(
+                    to,
+                    "the tree buffer has fewer than {NUMBERS_PER_TOKEN} numbers a token"
+                )
+            }
+            Self::NestingLimitExceeded => {
+                write!(to, "groups and lists nest deeper than {MOST_NESTING}")
+            }
+            _ => to.write_str(self.sentence()),
+        }
+    }
+}
+
+impl TypeNameError {
+    /// Of those whose sentence holds no number.
+    fn sentence(self) -> &'static str {
+        match self {
+            Self::InvalidHead => {
+                "the head record is cut off, or its length, kind or structure flag is wrong"
+            }
+            Self::UnknownProfile => "the head record names no language or standard",
+            Self::InvalidRecord => {
+                "a token record is cut off, or its length, kind, span or word is out of range"
+            }
+            Self::Empty => "there is no token",
+            Self::UnexpectedClosingDelimiter => {
+                "a closing bracket does not close the bracket that was opened last"
+            }
+            Self::UnexpectedAngle => "an angle stands outside brackets where none can stand",
+            Self::TopLevelComma => "a comma stands outside brackets and angles",
+            Self::UnexpectedEndToken => "a token of kind End stands in the row",
+            Self::UnclosedDelimiter => "a bracket is never closed",
+            Self::UnclosedAngle => "an angle is never closed",
+            Self::MissingTypeWord => "there is no identifier",
+            Self::InvalidBoundaryToken => "no type name begins or ends so",
+            Self::UnterminatedGroup => {
+                "a group is not closed, as a list that begins in it takes its closing bracket"
+            }
+            Self::MismatchedClosingDelimiter => {
+                "a group meets the wrong closing bracket, as a list that begins in it takes its own"
+            }
+            Self::UnexpectedTokenAfterTypeName => "tokens are left over",
+            Self::AllowancePassed => "reading and checking would pass the allowance",
+            Self::NoTypeName => "the tokens name no type",
+            Self::NotAvailableInProfile => "the standard lacks what the type name uses",
+            Self::FileTooLong
+            | Self::TooManyRecords
+            | Self::ShortBuffer
+            | Self::NestingLimitExceeded => unreachable!("these hold numbers"),
+        }
+    }
+}
+
+impl Error for TypeNameError {}
+
 numbered! {
     /// What a type name may use and a standard may lack; the number is the refusal's detail.
+    #[non_exhaustive]
     Feature {
+        /// `long long`
         LongLong = 1,
+        /// `_Atomic( )`
         Atomic = 2,
+        /// `_BitInt( )`
         BitInt = 3,
+        /// `typeof( )`
         Typeof = 4,
+        /// `typeof_unqual( )`
         TypeofUnqual = 5,
+        /// `decltype( )`
         Decltype = 6,
+        /// `&&`
         RvalueReference = 7,
+        /// A selector with `=`, as in `real(kind=8)`.
         Selector = 8,
+        /// `type( )`
         DerivedType = 9,
+        /// `class( )`
         Class = 10,
+        /// An assumed type or rank: `type(*)`, `(..)`.
         AssumedTypeOrRank = 11,
     }
 }
 
-#[derive(Debug, Clone, Copy, PartialEq, Eq, Hash)]
-pub enum Delimiter {
-    Parenthesis,
-    Bracket,
+impl fmt::Display for Feature {
+    fn fmt(&self, to: &mut fmt::Formatter<'_>) -> fmt::Result {
+        to.write_str(match self {
+            Self::LongLong => "`long long`",
+            Self::Atomic => "`_Atomic`",
+            Self::BitInt => "`_BitInt`",
+            Self::Typeof => "`typeof`",
+            Self::TypeofUnqual => "`typeof_unqual`",
+            Self::Decltype => "`decltype`",
+            Self::RvalueReference => "`&&`",
+            Self::Selector => "selector with `=`",
+            Self::DerivedType => "`type`",
+            Self::Class => "`class`",
+            Self::AssumedTypeOrRank => "assumed type or rank",
+        })
+    }
+}
+
+numbered! {
+    /// A sort of bracket; the number is the detail of `UnexpectedClosingDelimiter` where such a bracket was open.
+    Delimiter {
+        /// `(`
+        Parenthesis = 1,
+        /// `[`
+        Bracket = 2,
+    }
+}
+
+impl fmt::Display for Delimiter {
+    fn fmt(&self, to: &mut fmt::Formatter<'_>) -> fmt::Result {
+        to.write_str(match self {
+            Self::Parenthesis => "`(`",
+            Self::Bracket => "`[`",
+        })
+    }
 }

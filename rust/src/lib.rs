@@ -1,10 +1,14 @@
 //! Reads the name of a C, C++ or Fortran type, given as tokens, into a tree, or refuses it with one number that says why.
 //!
-//! A lexer's tokens become a row file with [`Row`]; [`parse_type_name`] reads it into a buffer of the caller's.
+//! A lexer's tokens become a row file with [`Row`]; [`parse_type_name`] reads it into a buffer of the caller's and gives a
+//! [`Tree`] or a [`Refusal`].
 //!
 #![doc = "```"]
 #![doc = include_str!("../examples/lane.rs")]
 #![doc = "```"]
+//!
+//! The file's format, the token kinds, the tree and the refusals are described in the repository's `docs/FORMAT.md`. The
+//! crate links `libtype_name.a`, which `tools/library` makes; it needs `alloc` and no `std`.
 //!
 //! # What is proved, and what is not
 //!
@@ -13,34 +17,43 @@
 //!
 //! Not proved: this crate. It sees to what no contract covers by handing over slices, which are aligned, as long as they
 //! say, never null and, as two of the three are `&mut`, apart from each other. It gives the numbers names and lays out row
-//! files; tests hold both to document 01.
+//! files; tests hold both to the proved definitions.
+
+#![no_std]
+#![warn(missing_docs)]
+
+extern crate alloc;
 
 mod answer;
+mod limits;
 mod numbered;
 mod profile;
 mod row;
+mod token;
 mod token_kind;
 mod tree;
 
-pub use answer::{Accepted, Delimiter, Feature, Refusal, TypeNameError};
-pub use profile::{CStandard, CppStandard, FortranStandard, HostLanguageProfile};
-pub use row::{Head, Row};
+use alloc::vec;
+use alloc::vec::Vec;
+
+pub use answer::{Delimiter, Feature, Refusal, TypeNameError};
+pub use limits::{
+    ALLOWANCE_AT, ANSWER_LENGTH, GREATEST_WORD_BYTE, HEAD_KIND, HEAD_LENGTH, LEAST_WORD_BYTE,
+    LONGEST_WORD, MOST_BYTES, MOST_NESTING, MOST_TOKENS, NO_TOKEN, NODE_WIDTH, NUMBERS_PER_TOKEN,
+    Offset, TOKEN_LENGTH, TREE_LENGTH,
+};
+pub use numbered::UnknownNumberError;
+pub use profile::{CStandard, CppStandard, FortranStandard, HostLanguage, HostLanguageProfile};
+pub use row::{AMPLE_ALLOWANCE, Head, RecordError, Row, StructureCheck, limit_allowance};
+pub use token::{Token, Tokens};
 pub use token_kind::TokenKind;
-pub use tree::{Node, NodeKind, Nodes};
-
-/// The numbers that the tree buffer must hold for each token, else [`TypeNameError::ShortBuffer`].
-pub const NUMBERS_PER_TOKEN: usize = 6;
-
-/// The most tokens of a row.
-const ROW_LIMIT: usize = 1_024;
-
-/// The numbers of a tree buffer that is long enough for every file.
-pub const TREE_LENGTH: usize = NUMBERS_PER_TOKEN * ROW_LIMIT;
+pub use tree::{Node, NodeKind, Nodes, Tree};
 
 /// A buffer long enough for this file.
+#[must_use]
 pub fn tree_for(file: &[u8]) -> Vec<u32> {
-    let records = file.len().saturating_sub(row::HEAD_LENGTH) / row::TOKEN_LENGTH;
-    vec![0; NUMBERS_PER_TOKEN * records.min(ROW_LIMIT)]
+    let records = file.len().saturating_sub(HEAD_LENGTH) / TOKEN_LENGTH;
+    vec![0; NUMBERS_PER_TOKEN * records.min(MOST_TOKENS)]
 }
 
 /// Reads a row file into the tree buffer.
@@ -51,20 +64,24 @@ pub fn tree_for(file: &[u8]) -> Vec<u32> {
 /// Nothing is allocated and no state is kept. Some rows take exponentially many steps in their length; the allowance of the
 /// row's [`Head`] bounds them.
 ///
+/// # Errors
+///
+/// If the type name is refused.
+///
 /// # Panics
 ///
 /// Only if the library that is linked is not the proved one: its refusals have other numbers.
-pub fn parse_type_name(file: &[u8], tree: &mut [u32]) -> Result<Accepted, Refusal> {
-    let mut answer = [0; 4];
-    type_name_read(file, tree, &mut answer);
+pub fn parse_type_name<'a>(file: &'a [u8], buffer: &'a mut [u32]) -> Result<Tree<'a>, Refusal> {
+    let mut answer = [0; ANSWER_LENGTH];
+    type_name_read(file, buffer, &mut answer);
     match answer {
-        [0, nodes, steps, _] => Ok(Accepted { nodes, steps }),
+        [0, nodes, steps, _] => Ok(Tree::new(file, buffer, nodes, steps)),
         [number, token, detail, steps] => Err(Refusal::of_numbers(number, token, detail, steps)),
     }
 }
 
 /// The C function, with slices for its pointers and lengths: returns 0 if accepted, else the refusal's number, and writes as
-/// many of the answer's four numbers as there is room for.
+/// many of the answer's [`ANSWER_LENGTH`] numbers as there is room for.
 ///
 /// For those who want the numbers themselves; all others call [`parse_type_name`].
 pub fn type_name_read(file: &[u8], tree: &mut [u32], answer: &mut [u32]) -> u32 {

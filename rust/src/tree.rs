@@ -1,42 +1,32 @@
-//! Node records: kind, token and extent, parents first.
+//! The tree of an accepted type name.
 
+use alloc::vec;
+use alloc::vec::Vec;
+
+use crate::limits::NODE_WIDTH;
 use crate::numbered::numbered;
-
-/// The numbers of a node record.
-const WIDTH: usize = 3;
-
-/// A node, with what is below it.
-#[derive(Debug, Clone, Copy, PartialEq, Eq)]
-pub struct Node<'t> {
-    pub kind: NodeKind,
-    /// The number of its token: of a group or list the opener, of an argument the first one.
-    pub token: u32,
-    /// The nodes of its subtree, itself included.
-    pub extent: u32,
-    below: Nodes<'t>,
-}
-
-impl<'t> Node<'t> {
-    /// The nodes directly below it.
-    pub fn children(self) -> Nodes<'t> {
-        self.below
-    }
-}
+use crate::token::{Token, Tokens};
 
 numbered! {
+    /// What sort of node it is.
     NodeKind {
+        /// A token by itself.
         Token = 0,
+        /// `(`, what stands between, and `)`.
         Parentheses = 1,
+        /// `[`, what stands between, and `]`.
         Brackets = 2,
         /// A template argument list, from `<` to its closer. Its children are arguments.
         List = 3,
+        /// What stands between two commas of a list.
         Argument = 4,
     }
 }
 
 impl NodeKind {
     /// As listings have it.
-    pub fn letter(self) -> char {
+    #[must_use]
+    pub const fn letter(self) -> char {
         match self {
             Self::Token => 'T',
             Self::Parentheses => 'G',
@@ -47,25 +37,97 @@ impl NodeKind {
     }
 }
 
-/// Nodes that stand beside each other, in order.
-#[derive(Debug, Clone, Copy, PartialEq, Eq)]
-pub struct Nodes<'t> {
-    /// Theirs and all below them.
-    records: &'t [[u32; WIDTH]],
+type Record = [u32; NODE_WIDTH];
+
+/// The tree of an accepted type name.
+///
+/// It borrows the buffer that holds its node records and the row file that it was read from, so that neither can change
+/// under it and each node leads to its token.
+#[derive(Debug, Clone, Copy)]
+pub struct Tree<'a> {
+    file: &'a [u8],
+    records: &'a [Record],
+    steps: u32,
 }
 
-impl<'t> Nodes<'t> {
-    pub(crate) fn of_records(tree: &'t [u32], count: usize) -> Self {
-        let (records, _) = tree.as_chunks();
+impl<'a> Tree<'a> {
+    /// The first `nodes` records of a buffer.
+    pub(crate) fn new(file: &'a [u8], buffer: &'a [u32], nodes: u32, steps: u32) -> Self {
+        let (records, _) = buffer.as_chunks();
         Self {
-            records: &records[..count],
+            file,
+            records: &records[..nodes as usize],
+            steps,
         }
     }
 
-    /// These and all nodes below them, parents first, each with its level: how many groups and lists it stands in.
-    pub fn with_levels(self) -> impl Iterator<Item = (u32, Node<'t>)> {
-        let mut open = vec![(0, self)];
-        std::iter::from_fn(move || {
+    /// How many nodes it has.
+    #[must_use]
+    pub fn node_count(&self) -> usize {
+        self.records.len()
+    }
+
+    /// What reading and checking took, of the allowance.
+    #[must_use]
+    pub fn steps(&self) -> u32 {
+        self.steps
+    }
+
+    /// The nodes of the top level, each with what is below it.
+    #[must_use]
+    pub fn top_level(&self) -> Nodes<'a> {
+        Nodes {
+            records: self.records,
+            tokens: Tokens::new(self.file),
+        }
+    }
+
+    /// All nodes, parents first, each with its level: how many groups and lists it stands in.
+    pub fn with_levels(&self) -> impl Iterator<Item = (u32, Node<'a>)> + use<'a> {
+        self.top_level().with_levels()
+    }
+
+    /// The node records, parents first: kind, token, extent.
+    #[must_use]
+    pub fn records(&self) -> &'a [Record] {
+        self.records
+    }
+}
+
+/// A node, with what is below it.
+#[derive(Debug, Clone, PartialEq, Eq)]
+pub struct Node<'a> {
+    /// What sort of node it is.
+    pub kind: NodeKind,
+    /// Its token: of a group or list the opener, of an argument the first one.
+    pub token: Token<'a>,
+    /// The nodes of its subtree, itself included.
+    pub extent: u32,
+    below: Nodes<'a>,
+}
+
+impl<'a> Node<'a> {
+    /// The nodes directly below it.
+    #[must_use]
+    pub fn children(&self) -> Nodes<'a> {
+        self.below.clone()
+    }
+}
+
+/// Nodes that stand beside each other, in order.
+#[derive(Debug, Clone, PartialEq, Eq)]
+pub struct Nodes<'a> {
+    /// Theirs and all below them.
+    records: &'a [Record],
+    /// From a token on that is not behind the first node's. Node records have their tokens in order.
+    tokens: Tokens<'a>,
+}
+
+impl<'a> Nodes<'a> {
+    /// These and all nodes below them, parents first, each with its level below these.
+    pub fn with_levels(self) -> impl Iterator<Item = (u32, Node<'a>)> + use<'a> {
+        let mut open: Vec<(u32, Self)> = vec![(0, self)];
+        core::iter::from_fn(move || {
             while let Some((level, siblings)) = open.last_mut() {
                 let level = *level;
                 if let Some(node) = siblings.next() {
@@ -81,19 +143,21 @@ impl<'t> Nodes<'t> {
     }
 }
 
-impl<'t> Iterator for Nodes<'t> {
-    type Item = Node<'t>;
+impl<'a> Iterator for Nodes<'a> {
+    type Item = Node<'a>;
 
-    fn next(&mut self) -> Option<Node<'t>> {
+    fn next(&mut self) -> Option<Node<'a>> {
         let &[kind, token, extent] = self.records.first()?;
         let (subtree, after) = self.records.split_at(extent as usize);
         self.records = after;
+        self.tokens.forward_to(token);
         Some(Node {
-            kind: NodeKind::numbered(kind).expect("a node record"),
-            token,
+            kind: NodeKind::try_from(kind).expect("a node record"),
+            token: self.tokens.clone().next().expect("a token of the row"),
             extent,
-            below: Nodes {
+            below: Self {
                 records: &subtree[1..],
+                tokens: self.tokens.clone(),
             },
         })
     }

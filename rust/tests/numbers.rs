@@ -1,84 +1,67 @@
-//! The names that this crate gives to numbers are those of the proved crate `rows`.
+//! Numbers and names lead to each other. `tools/numbers` holds the numbers themselves to the proved definitions.
 
-use std::collections::BTreeMap;
+use type_name::{
+    Delimiter, Feature, HostLanguage, HostLanguageProfile, NodeKind, StructureCheck, TokenKind,
+    TypeNameError,
+};
 
-use type_name::{Feature, NodeKind, TokenKind, TypeNameError};
-
-const KINDS: &str = include_str!("../../crates/rows/src/kinds.rt");
-const ANSWER: &str = include_str!("../../crates/rows/src/answer.rt");
-
-/// `LeftParen` for `LEFT_PAREN`.
-fn as_case(constant: &str) -> String {
-    let words = constant.split('_');
-    words
-        .map(|word| word[..1].to_owned() + &word[1..].to_ascii_lowercase())
-        .collect()
+/// Each case has its own number and is found by it; no other number is taken.
+macro_rules! round_trip {
+    ($($name:ident)*) => {
+        $(
+            let numbers = $name::ALL.map($name::number);
+            assert!(numbers.is_sorted_by(|one, next| one < next));
+            for number in 0..300 {
+                match $name::try_from(number) {
+                    Ok(case) => assert_eq!(u32::from(case), number),
+                    Err(error) => {
+                        assert!(!numbers.contains(&number));
+                        let said = format!("{number} is the number of no {}", stringify!($name));
+                        assert_eq!(error.to_string(), said);
+                    }
+                }
+            }
+        )*
+    };
 }
 
 #[test]
-fn token_kinds() {
-    let lines = KINDS
-        .lines()
-        .filter_map(|line| line.strip_prefix("pub const "));
-    let constants: Vec<(String, u32)> = lines
-        .map(|line| {
-            let (name, number) = line.split_once(": u8 = ").unwrap();
-            let number = number.trim_end_matches(';').parse().unwrap();
-            (as_case(name), number)
-        })
-        .filter(|(name, _)| name != "NoTokenKind")
-        .collect();
-    let kinds = TokenKind::ALL.map(|kind| (format!("{kind:?}"), kind.number()));
-    assert_eq!(constants, kinds);
-    assert_eq!(kinds.len(), 58);
-}
-
-/// The cases of an enum that code maps to numbers, with the first number behind each.
-fn mapped(prefix: &str, function: &str) -> BTreeMap<String, u32> {
-    let (_, body) = ANSWER.split_once(function).unwrap();
-    let (body, _) = body.split_once("\n}\n").unwrap();
-    let arms = body.split(prefix).skip(1);
-    arms.map(|arm| {
-        let name = arm
-            .split(|letter: char| !letter.is_ascii_alphabetic())
-            .next()
-            .unwrap();
-        let (_, value) = arm.split_once("=>").unwrap();
-        let mut numbers = value.split(|letter: char| !letter.is_ascii_digit());
-        let number = numbers.find(|number| !number.is_empty()).unwrap();
-        (name.to_owned(), number.parse().unwrap())
-    })
-    .collect()
+fn numbers_lead_to_names_and_back() {
+    round_trip!(Delimiter Feature HostLanguage NodeKind StructureCheck TokenKind TypeNameError);
 }
 
 #[test]
-fn refusals() {
-    let errors = TypeNameError::ALL.map(|error| (format!("{error:?}"), error.number()));
-    assert_eq!(
-        mapped("TypeNameError::", "fn refusal_of("),
-        BTreeMap::from(errors)
-    );
-}
-
-#[test]
-fn features() {
-    let features = Feature::ALL.map(|feature| (format!("{feature:?}"), feature.number()));
-    assert_eq!(
-        mapped("Feature::", "fn feature_detail("),
-        BTreeMap::from(features)
-    );
-}
-
-#[test]
-fn numbers_that_mean_nothing_have_no_name() {
-    let table = [
-        1, 2, 3, 4, 5, 6, 10, 11, 12, 13, 14, 15, 16, 17, 18, 20, 21, 22, 23, 25, 30, 40,
-    ];
-    for number in 0..100 {
-        let error = TypeNameError::numbered(number);
-        assert_eq!(error.is_some(), table.contains(&number));
-        assert_eq!(error.map_or(number, TypeNameError::number), number);
+fn a_head_s_numbers_lead_to_its_profile() {
+    let mut found = Vec::new();
+    for language in 0..4 {
+        for standard in 0..255 {
+            if let Ok(profile) = HostLanguageProfile::try_from((language, standard)) {
+                assert_eq!(profile.language().number(), language);
+                assert_eq!(profile.standard(), standard);
+                found.push(profile);
+            }
+        }
     }
-    assert_eq!(NodeKind::numbered(5), None);
-    assert_eq!(Feature::numbered(0), None);
+    assert!(HostLanguageProfile::all().eq(found));
+}
+
+#[test]
+fn standard_255_is_the_default() {
+    let meant = HostLanguage::ALL
+        .map(|language| HostLanguageProfile::try_from((language.number(), 255)).unwrap());
+    assert_eq!(
+        meant,
+        HostLanguage::ALL.map(HostLanguageProfile::default_of)
+    );
+    let names = meant.map(|profile| profile.to_string());
+    assert_eq!(names, ["C18", "C++17", "Fortran 2018"]);
+}
+
+#[test]
+fn each_error_is_a_sentence_of_its_own() {
+    let mut sentences = TypeNameError::ALL.map(|error| error.to_string()).to_vec();
+    assert!(sentences.iter().all(|sentence| sentence.contains(' ')));
+    sentences.sort();
+    sentences.dedup();
+    assert_eq!(sentences.len(), TypeNameError::ALL.len());
 }

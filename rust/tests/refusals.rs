@@ -5,9 +5,10 @@ mod support;
 
 use support::{answer, c, checked, cpp, fortran, row, unchecked};
 use type_name::{
-    CStandard, CppStandard, Delimiter, Feature, FortranStandard, Head, HostLanguageProfile,
-    NUMBERS_PER_TOKEN, Refusal, Row, TREE_LENGTH, TokenKind, TypeNameError, parse_type_name,
-    tree_for, type_name_read,
+    ANSWER_LENGTH, CStandard, CppStandard, Delimiter, Feature, FortranStandard, HEAD_LENGTH, Head,
+    HostLanguageProfile, MOST_BYTES, MOST_NESTING, MOST_TOKENS, NO_TOKEN, NODE_WIDTH,
+    NUMBERS_PER_TOKEN, Refusal, StructureCheck, TOKEN_LENGTH, TREE_LENGTH, TypeNameError,
+    parse_type_name, tree_for, type_name_read,
 };
 
 const DIRT: u32 = 0xdead_beef;
@@ -45,50 +46,55 @@ fn of_the_file() {
         assert_eq!((refusal.token, refusal.steps), (None, 0));
         (refusal.error, refusal.detail)
     };
-    assert_eq!(number(&[0; 65_537]), (TypeNameError::FileTooLong, 0));
+    assert_eq!(
+        number(&[0; MOST_BYTES + 1]),
+        (TypeNameError::FileTooLong, 0)
+    );
     for wrong in [vec![], changed(0, 12), changed(3, 0), changed(6, 2)] {
         assert_eq!(number(&wrong), (TypeNameError::InvalidHead, 0));
     }
     for unknown in [changed(4, 3), changed(5, 5)] {
         assert_eq!(number(&unknown), (TypeNameError::UnknownProfile, 0));
     }
-    // The second record's offset, behind a head of 11 bytes and a record of 15.
     let mut cut_off = row(c18(), "int *").bytes().to_vec();
     cut_off.pop();
-    assert_eq!(number(&cut_off), (TypeNameError::InvalidRecord, 26));
-    let many = "A ".repeat(1_025);
+    let second_record = HEAD_LENGTH + TOKEN_LENGTH + "int".len();
+    let expected = (TypeNameError::InvalidRecord, second_record as u32);
+    assert_eq!(number(&cut_off), expected);
+    let many = "A ".repeat(MOST_TOKENS + 1);
     let many = row(unchecked(c(CStandard::C18)), &many);
     assert_eq!(number(many.bytes()), (TypeNameError::TooManyRecords, 0));
 }
 
+/// What `Row::push` does not write is refused where others write it.
 #[test]
 fn of_what_a_record_cannot_hold() {
-    let of_word = |word: &str, span| {
-        let mut row = Row::new(c18());
-        row.push(TokenKind::Identifier, word, span);
-        refused(row.bytes()).error
+    let int = row(c18(), "int").bytes().to_vec();
+    let word = HEAD_LENGTH + TOKEN_LENGTH;
+    let with_word = |bytes: &[u8]| {
+        let mut file = int[..word].to_vec();
+        file[HEAD_LENGTH..][..2]
+            .copy_from_slice(&((TOKEN_LENGTH + bytes.len()) as u16).to_le_bytes());
+        file.extend(bytes);
+        file
     };
-    for word in [
-        "",
-        "a b",
-        "caf\u{e9}",
-        &"a".repeat(256),
-        &"a".repeat(65_000),
-    ] {
-        assert_eq!(of_word(word, 0..1), TypeNameError::InvalidRecord);
-    }
-    #[expect(
-        clippy::reversed_empty_ranges,
-        reason = "a span that ends before it starts"
-    )]
-    let turned = 1..0;
-    assert_eq!(of_word("a", turned), TypeNameError::InvalidRecord);
-    // Where the length field no longer has room the file is too long.
-    for length in [65_514, 65_523, 65_524, 100_000] {
-        assert_eq!(
-            of_word(&"a".repeat(length), 0..1),
-            TypeNameError::FileTooLong
-        );
+    let reversed = {
+        let mut file = int.clone();
+        file[HEAD_LENGTH + 4] = 4;
+        file
+    };
+    assert!(parse_type_name(&with_word(b"int"), &mut tree_for(&int)).is_ok());
+    let files = [
+        with_word(b""),
+        with_word(b"a b"),
+        with_word("caf\u{e9}".as_bytes()),
+        with_word(&[b'a'; 256]),
+        reversed,
+    ];
+    for file in files {
+        let refusal = refused(&file);
+        assert_eq!(refusal.error, TypeNameError::InvalidRecord);
+        assert_eq!(refusal.detail, HEAD_LENGTH as u32);
     }
 }
 
@@ -128,7 +134,11 @@ fn of_the_prescan() {
 #[test]
 fn of_the_reading_and_the_structure() {
     let cpp17 = checked(cpp(CppStandard::Cpp17));
-    let deep = format!("int {}{}", "(".repeat(65), ")".repeat(65));
+    let deep = format!(
+        "int {}{}",
+        "(".repeat(MOST_NESTING + 1),
+        ")".repeat(MOST_NESTING + 1)
+    );
     assert_eq!(numbers(cpp17, &deep), (20, None, 0));
     assert_eq!(numbers(cpp17, "Slots<(Lanes<8)>"), (21, None, 0));
     assert_eq!(numbers(cpp17, "A([A<]>)"), (22, None, 0));
@@ -142,18 +152,18 @@ fn of_the_reading_and_the_structure() {
 
 /// A row that lacks the feature with the standard, and none with the next.
 #[rustfmt::skip]
-const FEATURES: [(Feature, [HostLanguageProfile; 2], bool, &str); 11] = [
-    (Feature::LongLong, [c(CStandard::C89), c(CStandard::C99)], true, "long long"),
-    (Feature::Atomic, [c(CStandard::C99), c(CStandard::C11)], true, "_Atomic(int)"),
-    (Feature::BitInt, [c(CStandard::C18), c(CStandard::C23)], true, "_BitInt(8)"),
-    (Feature::Typeof, [c(CStandard::C18), c(CStandard::C23)], true, "typeof(int)"),
-    (Feature::TypeofUnqual, [c(CStandard::C18), c(CStandard::C23)], true, "typeof_unqual(int)"),
-    (Feature::Decltype, [cpp(CppStandard::Cpp98), cpp(CppStandard::Cpp11)], true, "decltype(x)"),
-    (Feature::RvalueReference, [cpp(CppStandard::Cpp98), cpp(CppStandard::Cpp11)], true, "int&&"),
-    (Feature::Selector, [fortran(FortranStandard::Fortran77), fortran(FortranStandard::Fortran90)], true, "real(kind=8)"),
-    (Feature::DerivedType, [fortran(FortranStandard::Fortran77), fortran(FortranStandard::Fortran90)], true, "type(lane)"),
-    (Feature::Class, [fortran(FortranStandard::Fortran95), fortran(FortranStandard::Fortran2003)], true, "class(lane)"),
-    (Feature::AssumedTypeOrRank, [fortran(FortranStandard::Fortran2008), fortran(FortranStandard::Fortran2018)], false, "lane(..)"),
+const FEATURES: [(Feature, [HostLanguageProfile; 2], StructureCheck, &str); 11] = [
+    (Feature::LongLong, [c(CStandard::C89), c(CStandard::C99)], StructureCheck::On, "long long"),
+    (Feature::Atomic, [c(CStandard::C99), c(CStandard::C11)], StructureCheck::On, "_Atomic(int)"),
+    (Feature::BitInt, [c(CStandard::C18), c(CStandard::C23)], StructureCheck::On, "_BitInt(8)"),
+    (Feature::Typeof, [c(CStandard::C18), c(CStandard::C23)], StructureCheck::On, "typeof(int)"),
+    (Feature::TypeofUnqual, [c(CStandard::C18), c(CStandard::C23)], StructureCheck::On, "typeof_unqual(int)"),
+    (Feature::Decltype, [cpp(CppStandard::Cpp98), cpp(CppStandard::Cpp11)], StructureCheck::On, "decltype(x)"),
+    (Feature::RvalueReference, [cpp(CppStandard::Cpp98), cpp(CppStandard::Cpp11)], StructureCheck::On, "int&&"),
+    (Feature::Selector, [fortran(FortranStandard::Fortran77), fortran(FortranStandard::Fortran90)], StructureCheck::On, "real(kind=8)"),
+    (Feature::DerivedType, [fortran(FortranStandard::Fortran77), fortran(FortranStandard::Fortran90)], StructureCheck::On, "type(lane)"),
+    (Feature::Class, [fortran(FortranStandard::Fortran95), fortran(FortranStandard::Fortran2003)], StructureCheck::On, "class(lane)"),
+    (Feature::AssumedTypeOrRank, [fortran(FortranStandard::Fortran2008), fortran(FortranStandard::Fortran2018)], StructureCheck::Off, "lane(..)"),
 ];
 
 #[test]
@@ -191,12 +201,20 @@ fn refusals_are_printed() {
     let printed = |head, text| answer(head, text).unwrap_err().to_string();
     assert_eq!(
         printed(c18(), "A(]"),
-        "refusal 11, UnexpectedClosingDelimiter, token 2, detail 1"
+        "refusal 11: a closing bracket does not close the bracket that was opened last; `(` was open (token 2)"
     );
     let c89 = checked(c(CStandard::C89));
     assert_eq!(
         printed(c89, "long long"),
-        "refusal 40, NotAvailableInProfile, LongLong"
+        "refusal 40: the standard lacks what the type name uses: `long long`"
+    );
+    let scant = Head {
+        allowance: 1,
+        ..c18()
+    };
+    assert_eq!(
+        printed(scant, "int"),
+        "refusal 25: reading and checking would pass the allowance of 1 steps"
     );
 }
 
@@ -204,8 +222,10 @@ fn refusals_are_printed() {
 fn an_accepted_tree_is_followed_by_zeros() {
     let row = row(c18(), "int (*)[3]");
     let mut tree = vec![DIRT; TREE_LENGTH];
-    let accepted = parse_type_name(row.bytes(), &mut tree).unwrap();
-    let (records, behind) = tree.split_at(3 * accepted.nodes as usize);
+    let nodes = parse_type_name(row.bytes(), &mut tree)
+        .unwrap()
+        .node_count();
+    let (records, behind) = tree.split_at(NODE_WIDTH * nodes);
     // The word, the group with its star, the brackets with their number.
     assert_eq!(records, [0, 0, 1, 1, 1, 2, 0, 2, 1, 2, 4, 2, 0, 5, 1]);
     assert!(behind.iter().all(|&number| number == 0));
@@ -213,10 +233,11 @@ fn an_accepted_tree_is_followed_by_zeros() {
 
 #[test]
 fn the_longest_row_needs_the_longest_buffer() {
-    let row = row(unchecked(c(CStandard::C18)), &"A ".repeat(1_024));
+    let row = row(unchecked(c(CStandard::C18)), &"A ".repeat(MOST_TOKENS));
     let mut tree = vec![DIRT; TREE_LENGTH];
     let accepted = parse_type_name(row.bytes(), &mut tree).unwrap();
-    assert_eq!((accepted.nodes, accepted.steps), (1_024, 1_024));
+    assert_eq!(accepted.node_count(), MOST_TOKENS);
+    assert_eq!(accepted.steps() as usize, MOST_TOKENS);
     let short = parse_type_name(row.bytes(), &mut tree[1..]).unwrap_err();
     assert_eq!(short.error, TypeNameError::ShortBuffer);
     assert_eq!(tree_for(row.bytes()).len(), TREE_LENGTH);
@@ -226,12 +247,12 @@ fn the_longest_row_needs_the_longest_buffer() {
 #[test]
 fn as_many_numbers_of_the_answer_as_have_room_are_written() {
     let file = include_bytes!("../../examples/lane_checked.row");
-    let whole = [30, 65_535, 0, 14];
+    let whole = [30, NO_TOKEN, 0, 14];
     for room in 0..6 {
         let mut answer = [DIRT; 6];
         let mut tree = tree_for(file);
         assert_eq!(type_name_read(file, &mut tree, &mut answer[..room]), 30);
-        let written = room.min(4);
+        let written = room.min(ANSWER_LENGTH);
         assert_eq!(answer[..written], whole[..written]);
         assert!(answer[written..].iter().all(|&number| number == DIRT));
     }

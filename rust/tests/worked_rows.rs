@@ -3,10 +3,10 @@
 
 mod support;
 
-use support::{answer, c, checked, cpp, fortran, row, unchecked};
+use support::{Accepted, answer, c, checked, cpp, fortran, row, unchecked};
 use type_name::{
-    Accepted, CStandard, CppStandard, Feature, FortranStandard, Head, Refusal, Row, TokenKind,
-    TypeNameError, parse_type_name, tree_for,
+    CStandard, CppStandard, Feature, FortranStandard, Head, MOST_NESTING, Refusal, Row,
+    StructureCheck, TokenKind, TypeNameError, parse_type_name, tree_for,
 };
 
 /// A refusal that names no token and has no detail.
@@ -19,7 +19,7 @@ fn plain(error: TypeNameError, steps: u32) -> Refusal {
     }
 }
 
-fn accepted(nodes: u32, steps: u32) -> Result<Accepted, Refusal> {
+fn accepted(nodes: usize, steps: u32) -> Result<Accepted, Refusal> {
     Ok(Accepted { nodes, steps })
 }
 
@@ -32,11 +32,11 @@ fn listing(head: Head, text: &str) -> String {
     let mut tree = tree_for(row.bytes());
     match parse_type_name(row.bytes(), &mut tree) {
         Err(refusal) => panic!("{text}: {refusal}"),
-        Ok(accepted) => {
-            let mut lines = format!("ok {} {}\n", accepted.nodes, accepted.steps);
-            for (level, node) in accepted.top_level(&tree).with_levels() {
+        Ok(tree) => {
+            let mut lines = format!("ok {} {}\n", tree.node_count(), tree.steps());
+            for (level, node) in tree.with_levels() {
                 let letter = node.kind.letter();
-                lines += &format!("{level} {letter} {} {}\n", node.token, node.extent);
+                lines += &format!("{level} {letter} {} {}\n", node.token.number, node.extent);
             }
             lines
         }
@@ -124,27 +124,30 @@ fn boundaries() {
 fn nesting() {
     let groups = |depth| format!("int {}{}", "(".repeat(depth), ")".repeat(depth));
     let head = unchecked(c(CStandard::C18));
-    assert_eq!(answer(head, &groups(64)).unwrap().steps, 65);
+    let steps = answer(head, &groups(MOST_NESTING)).unwrap().steps;
+    assert_eq!(steps, 65);
+    let too_deep = MOST_NESTING + 1;
     assert_eq!(
-        error(head, &groups(65)),
+        error(head, &groups(too_deep)),
         TypeNameError::NestingLimitExceeded
     );
-    // Single `>`, which no lexer would make of 65 in a row.
+    // Single `>`, which no lexer would make of so many in a row.
     let mut row = Row::new(unchecked(cpp(CPP17)));
-    for _ in 0..65 {
-        row.push(TokenKind::Identifier, "A", 0..0);
-        row.push(TokenKind::Less, "<", 0..0);
+    let mut push = |kind, text| row.push(kind, text, 0..0).unwrap();
+    for _ in 0..too_deep {
+        push(TokenKind::Identifier, "A");
+        push(TokenKind::Less, "<");
     }
-    row.push(TokenKind::Identifier, "b", 0..0);
-    for _ in 0..65 {
-        row.push(TokenKind::Greater, ">", 0..0);
+    push(TokenKind::Identifier, "b");
+    for _ in 0..too_deep {
+        push(TokenKind::Greater, ">");
     }
-    let mut tree = tree_for(row.bytes());
-    let accepted = parse_type_name(row.bytes(), &mut tree).unwrap();
-    assert_eq!(accepted.steps, 132);
-    let nodes = accepted.top_level(&tree).with_levels();
+    let mut buffer = tree_for(row.bytes());
+    let tree = parse_type_name(row.bytes(), &mut buffer).unwrap();
+    assert_eq!(tree.steps(), 132);
+    let nodes = tree.with_levels();
     let places: Vec<_> = nodes
-        .map(|(level, node)| (level, node.kind.letter(), node.token))
+        .map(|(level, node)| (level, node.kind.letter(), node.token.number))
         .collect();
     // The innermost `<` and the last `>`.
     assert!(places.contains(&(64, 'T', 129)));
@@ -166,7 +169,7 @@ fn in_fortran() {
 
 const LANE: &str = "Lane<(Key<8>>2)>";
 
-fn lane(structure: bool) -> Head {
+fn lane(structure: StructureCheck) -> Head {
     Head {
         profile: cpp(CPP17),
         structure,
@@ -177,9 +180,9 @@ fn lane(structure: bool) -> Head {
 #[test]
 fn the_example() {
     let expected = include_str!("../../examples/lane.listing");
-    assert_eq!(listing(lane(false), LANE), expected);
+    assert_eq!(listing(lane(StructureCheck::Off), LANE), expected);
     assert_eq!(
-        answer(lane(true), LANE),
+        answer(lane(StructureCheck::On), LANE),
         Err(plain(TypeNameError::NoTypeName, 14))
     );
 }
@@ -190,7 +193,7 @@ fn rows_are_laid_out_as_the_shipped_ones() {
         include_bytes!("../../examples/lane.row"),
         include_bytes!("../../examples/lane_checked.row"),
     ];
-    for (structure, file) in [false, true].into_iter().zip(shipped) {
+    for (structure, file) in StructureCheck::ALL.into_iter().zip(shipped) {
         assert_eq!(row(lane(structure), LANE).bytes(), file);
     }
 }

@@ -1,8 +1,10 @@
-//! Rows from text, so that tests can be read.
+//! Rows from text, so that tests can be read. Each test uses a part of this.
+
+#![allow(dead_code)]
 
 use type_name::{
-    Accepted, CStandard, CppStandard, FortranStandard, Head, HostLanguageProfile, Refusal, Row,
-    TokenKind, parse_type_name, tree_for,
+    CStandard, CppStandard, FortranStandard, Head, HostLanguageProfile, Refusal, Row,
+    StructureCheck, TokenKind, parse_type_name, tree_for,
 };
 
 /// An allowance that no row here comes near.
@@ -24,7 +26,7 @@ pub const fn fortran(standard: FortranStandard) -> HostLanguageProfile {
 pub fn checked(profile: HostLanguageProfile) -> Head {
     Head {
         profile,
-        structure: true,
+        structure: StructureCheck::On,
         allowance: AMPLE,
     }
 }
@@ -32,7 +34,7 @@ pub fn checked(profile: HostLanguageProfile) -> Head {
 /// Without it.
 pub fn unchecked(profile: HostLanguageProfile) -> Head {
     Head {
-        structure: false,
+        structure: StructureCheck::Off,
         ..checked(profile)
     }
 }
@@ -68,7 +70,8 @@ pub fn row(head: Head, text: &str) -> Row {
             continue;
         }
         let (kind, length) = token(rest);
-        row.push(kind, &rest[..length], at as u32..(at + length) as u32);
+        let span = at as u32..(at + length) as u32;
+        row.push(kind, &rest[..length], span).unwrap();
         at += length;
     }
     row
@@ -90,7 +93,19 @@ fn token(text: &str) -> (TokenKind, usize) {
     (kind, text.find(is_symbol).unwrap_or(text.len()))
 }
 
+/// The nodes and the steps of an accepted type name.
+#[derive(Debug, Clone, Copy, PartialEq, Eq)]
+pub struct Accepted {
+    pub nodes: usize,
+    pub steps: u32,
+}
+
 pub fn answer(head: Head, text: &str) -> Result<Accepted, Refusal> {
     let row = row(head, text);
-    parse_type_name(row.bytes(), &mut tree_for(row.bytes()))
+    let mut buffer = tree_for(row.bytes());
+    let tree = parse_type_name(row.bytes(), &mut buffer)?;
+    Ok(Accepted {
+        nodes: tree.node_count(),
+        steps: tree.steps(),
+    })
 }

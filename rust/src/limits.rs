@@ -1,0 +1,50 @@
+//! The numbers of the row file, the tree and the answer: the one place of this crate that says them. `docs/FORMAT.md`
+//! describes them; `tools/numbers` holds them to the proved definitions.
+
+/// The most bytes of a row file, else [`FileTooLong`](crate::TypeNameError::FileTooLong).
+pub const MOST_BYTES: usize = 65_536;
+
+/// The bytes of the head record.
+pub const HEAD_LENGTH: usize = 11;
+
+/// Where the head record has its allowance, of four bytes.
+pub const ALLOWANCE_AT: usize = 7;
+
+/// The number that the head record has in place of a token kind.
+pub const HEAD_KIND: u16 = 256;
+
+/// The bytes of a token record, without its word.
+pub const TOKEN_LENGTH: usize = 12;
+
+/// The most tokens of a row, else [`TooManyRecords`](crate::TypeNameError::TooManyRecords).
+pub const MOST_TOKENS: usize = 1_024;
+
+/// The most bytes of a word.
+pub const LONGEST_WORD: usize = 255;
+
+/// The least byte that a word may have.
+pub const LEAST_WORD_BYTE: u8 = 33;
+
+/// The greatest byte that a word may have.
+pub const GREATEST_WORD_BYTE: u8 = 126;
+
+/// The numbers of a node record: kind, token, extent.
+pub const NODE_WIDTH: usize = 3;
+
+/// The numbers that the tree buffer must hold for each token, else [`ShortBuffer`](crate::TypeNameError::ShortBuffer).
+pub const NUMBERS_PER_TOKEN: usize = 6;
+
+/// The numbers of a tree buffer that is long enough for every file.
+pub const TREE_LENGTH: usize = NUMBERS_PER_TOKEN * MOST_TOKENS;
+
+/// The numbers of an answer.
+pub const ANSWER_LENGTH: usize = 4;
+
+/// Stands in an answer where a refusal names no token.
+pub const NO_TOKEN: u32 = 65_535;
+
+/// How deep groups and lists may nest, else [`NestingLimitExceeded`](crate::TypeNameError::NestingLimitExceeded).
+pub const MOST_NESTING: usize = 64;
+
+/// A byte offset in the source, as token records hold it.
+pub type Offset = u32;

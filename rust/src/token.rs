@@ -1,0 +1,99 @@
+//! The token records of a row file.
+
+use core::ops::Range;
+
+use crate::limits::{
+    GREATEST_WORD_BYTE, HEAD_LENGTH, LEAST_WORD_BYTE, LONGEST_WORD, Offset, TOKEN_LENGTH,
+};
+use crate::token_kind::TokenKind;
+
+/// A token of a row.
+#[derive(Debug, Clone, Copy, PartialEq, Eq)]
+pub struct Token<'a> {
+    /// Its place in the row, from 0.
+    pub number: u32,
+    /// What sort of token it is.
+    pub kind: TokenKind,
+    /// Of an identifier what stands in the source, else empty.
+    pub word: &'a str,
+    /// Where it begins in the source.
+    pub start: Offset,
+    /// Where it ends in the source.
+    pub end: Offset,
+}
+
+impl Token<'_> {
+    /// Where it stands in the source.
+    #[must_use]
+    pub fn span(&self) -> Range<Offset> {
+        self.start..self.end
+    }
+}
+
+/// The tokens of a row file, in order, up to the file's end or to the first record that is malformed.
+///
+/// Of a file that [`parse_type_name`](crate::parse_type_name) accepted, or refused from [`Empty`](crate::TypeNameError::Empty)
+/// on, these are all of its tokens.
+#[derive(Debug, Clone, PartialEq, Eq)]
+pub struct Tokens<'a> {
+    file: &'a [u8],
+    offset: usize,
+    number: u32,
+}
+
+impl<'a> Tokens<'a> {
+    /// Those of a file.
+    #[must_use]
+    pub fn new(file: &'a [u8]) -> Self {
+        Self {
+            file,
+            offset: HEAD_LENGTH,
+            number: 0,
+        }
+    }
+
+    /// Goes forward so that the token of this number comes next.
+    pub(crate) fn forward_to(&mut self, number: u32) {
+        while self.number < number && self.next().is_some() {}
+    }
+}
+
+impl<'a> Iterator for Tokens<'a> {
+    type Item = Token<'a>;
+
+    fn next(&mut self) -> Option<Token<'a>> {
+        let record = self.file.get(self.offset..)?;
+        let (token, length) = read(record, self.number)?;
+        self.offset += length;
+        self.number += 1;
+        Some(token)
+    }
+}
+
+/// The token whose record begins the bytes, and that record's length.
+fn read(bytes: &[u8], number: u32) -> Option<(Token<'_>, usize)> {
+    let &[l0, l1, k0, k1, s0, s1, s2, s3, e0, e1, e2, e3] = bytes.first_chunk::<TOKEN_LENGTH>()?;
+    let length = usize::from(u16::from_le_bytes([l0, l1]));
+    let kind = TokenKind::try_from(u32::from(u16::from_le_bytes([k0, k1]))).ok()?;
+    let token = Token {
+        number,
+        kind,
+        word: core::str::from_utf8(bytes.get(TOKEN_LENGTH..length)?).ok()?,
+        start: Offset::from_le_bytes([s0, s1, s2, s3]),
+        end: Offset::from_le_bytes([e0, e1, e2, e3]),
+    };
+    let word_stands = match kind {
+        TokenKind::Identifier => is_word(token.word.as_bytes()),
+        _ => token.word.is_empty(),
+    };
+    (word_stands && token.start <= token.end).then_some((token, length))
+}
+
+/// Whether a record can hold the word.
+fn is_word(word: &[u8]) -> bool {
+    (1..=LONGEST_WORD).contains(&word.len()) && word.iter().all(is_word_byte)
+}
+
+pub(crate) fn is_word_byte(byte: &u8) -> bool {
+    (LEAST_WORD_BYTE..=GREATEST_WORD_BYTE).contains(byte)
+}
