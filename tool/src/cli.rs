@@ -1,0 +1,86 @@
+//! The tool's commands, what it prints and its exit status.
+
+use std::ffi::OsString;
+use std::io::{self, Write};
+use std::process::ExitCode;
+
+use crate::read;
+
+const HELP: &str = "\
+type-name COMMAND ..: reads names of C, C++ and Fortran types with the proved reader
+
+Commands:
+    read       the tree of a type name, or why it is refused
+    help       prints this
+`type-name COMMAND --help` says more. `type-name --version` prints the version.
+
+Exit status: 0 accepted, 1 refused, 2 wrong use or input.
+";
+
+/// What a command comes to.
+pub enum Answer {
+    /// What to print; exit status 0.
+    Accepted(String),
+    /// What to print; exit status 1.
+    Refused(String),
+}
+
+/// Wrong use or input: what to print on standard error; exit status 2.
+pub struct Wrong(pub String);
+
+impl<E: std::error::Error> From<E> for Wrong {
+    fn from(error: E) -> Self {
+        Self(error.to_string())
+    }
+}
+
+pub type Done = Result<Answer, Wrong>;
+
+type Command = fn(&[OsString]) -> Done;
+
+/// Each command by its name. Later ones are added here.
+const COMMANDS: [(&str, Command); 1] = [("read", read::command)];
+
+/// Runs the tool with the words behind its name.
+pub fn run(arguments: Vec<OsString>) -> ExitCode {
+    let (text, status) = match done(&arguments) {
+        Ok(Answer::Accepted(text)) => (text, 0),
+        Ok(Answer::Refused(text)) => (text, 1),
+        Err(Wrong(message)) => return wrong(&message),
+    };
+    match io::stdout().write_all(text.as_bytes()) {
+        // Whoever reads has seen enough.
+        Err(error) if error.kind() == io::ErrorKind::BrokenPipe => ExitCode::from(status),
+        Err(error) => wrong(&format!("standard output: {error}")),
+        Ok(()) => ExitCode::from(status),
+    }
+}
+
+fn wrong(message: &str) -> ExitCode {
+    // There is nowhere to say that this cannot be said.
+    let _ = writeln!(io::stderr(), "type-name: {}", message.trim_end());
+    ExitCode::from(2)
+}
+
+fn done(arguments: &[OsString]) -> Done {
+    let Some((first, rest)) = arguments.split_first() else {
+        return Err(Wrong(format!("a command is missing\n\n{HELP}")));
+    };
+    let name = first.to_str().unwrap_or_default();
+    match name {
+        "help" | "--help" | "-h" => return Ok(Answer::Accepted(HELP.to_owned())),
+        "--version" => return Ok(Answer::Accepted(version())),
+        _ => {}
+    }
+    match COMMANDS.iter().find(|(command, _)| *command == name) {
+        Some((_, command)) => command(rest),
+        None => Err(Wrong(format!(
+            "no command `{}`; `type-name help` lists them",
+            first.display()
+        ))),
+    }
+}
+
+fn version() -> String {
+    format!("type-name {}\n", env!("CARGO_PKG_VERSION"))
+}

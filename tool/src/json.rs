@@ -1,0 +1,65 @@
+//! Answers for programs: one JSON object on one line. docs/FORMAT.md, "JSON", describes it.
+
+use type_name::{Node, NodeKind, Refusal, Tree};
+
+use crate::hints::Hint;
+use crate::source::Source;
+
+/// The nodes stand in one list, parents first, as the node records do: nested objects would be deeper than many readers
+/// of JSON go.
+pub fn accepted(source: &Source, tree: &Tree) -> String {
+    let nodes: Vec<String> = tree
+        .with_levels()
+        .map(|(level, node)| of_node(source, level, &node))
+        .collect();
+    let steps = tree.steps();
+    let nodes = nodes.join(",");
+    format!("{{\"accepted\":true,\"steps\":{steps},\"nodes\":[{nodes}]}}\n")
+}
+
+fn of_node(source: &Source, level: u32, node: &Node) -> String {
+    let kind = match node.kind {
+        NodeKind::Token => "token",
+        NodeKind::Parentheses => "parentheses",
+        NodeKind::Brackets => "brackets",
+        NodeKind::List => "list",
+        NodeKind::Argument => "argument",
+    };
+    let token = node.token;
+    let spelling = match node.kind {
+        NodeKind::Token => format!(",\"text\":{}", string(&source.spelling(token))),
+        _ => String::new(),
+    };
+    format!(
+        "{{\"level\":{level},\"kind\":\"{kind}\",\"token\":{},\"extent\":{},\"start\":{},\"end\":{}{spelling}}}",
+        token.number, node.extent, token.start, token.end
+    )
+}
+
+pub fn refused(refusal: Refusal, hint: Option<&Hint>) -> String {
+    let number = refusal.error.number();
+    let name = format!("{:?}", refusal.error);
+    let token = refusal
+        .token
+        .map_or("null".to_owned(), |token| token.to_string());
+    let sentence = string(&refusal.error.to_string());
+    let hint = hint.map_or("null".to_owned(), |hint| string(&hint.to_string()));
+    format!(
+        "{{\"accepted\":false,\"refusal\":{number},\"name\":\"{name}\",\"sentence\":{sentence},\"token\":{token},\"detail\":{},\"steps\":{},\"hint\":{hint}}}\n",
+        refusal.detail, refusal.steps
+    )
+}
+
+/// A JSON string.
+fn string(text: &str) -> String {
+    let mut quoted = String::from("\"");
+    for one in text.chars() {
+        match one {
+            '"' => quoted += "\\\"",
+            '\\' => quoted += "\\\\",
+            _ if one.is_control() => quoted += &format!("\\u{:04x}", u32::from(one)),
+            _ => quoted.push(one),
+        }
+    }
+    quoted + "\""
+}

@@ -1,0 +1,18 @@
+//! The command line tool `type-name`, as a library: `cli` is the tool, `lexer` its way from text to tokens.
+//!
+//! What reads a row is the proved reader, through the crate `type_name`. Nothing here is proved.
+
+pub mod cli;
+pub mod lexer;
+
+mod draw;
+mod excerpt;
+mod hints;
+mod json;
+mod listing;
+mod options;
+mod profiles;
+mod read;
+mod refused;
+mod rewrites;
+mod source;

@@ -1,0 +1,25 @@
+//! A refusal in words.
+
+use type_name::{Refusal, TypeNameError};
+
+use crate::excerpt::excerpt;
+use crate::hints::Hint;
+use crate::source::Source;
+
+/// The sentence, the text with the token marked, if one is named, and what to do, if something is known.
+pub fn sentence(source: &Source, refusal: Refusal, hint: Option<&Hint>) -> String {
+    let mut said = refusal.to_string();
+    let Some(text) = &source.text else {
+        return said + "\n";
+    };
+    if refusal.error == TypeNameError::NotAvailableInProfile {
+        said += &format!(" ({})", text.head.profile);
+    }
+    let token = refusal.token.map(|token| &text.tokens[token as usize]);
+    let place = token.map(|token| token.span.clone());
+    said += &format!("\n{}", excerpt(&text.text, place));
+    if let Some(hint) = hint {
+        said += &format!("{hint}\n");
+    }
+    said
+}
