@@ -2,6 +2,8 @@
 
 use std::fmt;
 
+use crate::format::ANSWER_LENGTH;
+
 /// The token of a refusal that names none.
 pub const NO_TOKEN: u32 = 65_535;
 
@@ -29,27 +31,27 @@ pub struct Refusal {
 
 impl Refusal {
     pub const FILE_TOO_LONG: u32 = 1;
-    pub const HEAD: u32 = 2;
-    pub const PROFILE_UNKNOWN: u32 = 3;
-    pub const RECORD_MALFORMED: u32 = 4;
-    pub const ROW_TOO_LONG: u32 = 5;
-    pub const BUFFER: u32 = 6;
+    pub const INVALID_HEAD: u32 = 2;
+    pub const UNKNOWN_PROFILE: u32 = 3;
+    pub const INVALID_RECORD: u32 = 4;
+    pub const TOO_MANY_RECORDS: u32 = 5;
+    pub const SHORT_BUFFER: u32 = 6;
     pub const EMPTY: u32 = 10;
-    pub const CLOSING_BRACKET: u32 = 11;
-    pub const ANGLE: u32 = 12;
-    pub const COMMA: u32 = 13;
-    pub const END: u32 = 14;
-    pub const OPEN_BRACKET: u32 = 15;
-    pub const OPEN_ANGLE: u32 = 16;
-    pub const NO_IDENTIFIER: u32 = 17;
-    pub const BOUNDARY: u32 = 18;
-    pub const NESTING: u32 = 20;
-    pub const GROUP_NOT_CLOSED: u32 = 21;
-    pub const WRONG_CLOSER: u32 = 22;
-    pub const LEFT_OVER: u32 = 23;
-    pub const ALLOWANCE: u32 = 25;
+    pub const UNEXPECTED_CLOSING_DELIMITER: u32 = 11;
+    pub const UNEXPECTED_ANGLE: u32 = 12;
+    pub const TOP_LEVEL_COMMA: u32 = 13;
+    pub const UNEXPECTED_END_TOKEN: u32 = 14;
+    pub const UNCLOSED_DELIMITER: u32 = 15;
+    pub const UNCLOSED_ANGLE: u32 = 16;
+    pub const MISSING_TYPE_WORD: u32 = 17;
+    pub const INVALID_BOUNDARY_TOKEN: u32 = 18;
+    pub const NESTING_LIMIT_EXCEEDED: u32 = 20;
+    pub const UNTERMINATED_GROUP: u32 = 21;
+    pub const MISMATCHED_CLOSING_DELIMITER: u32 = 22;
+    pub const UNEXPECTED_TOKEN_AFTER_TYPE_NAME: u32 = 23;
+    pub const ALLOWANCE_PASSED: u32 = 25;
     pub const NO_TYPE_NAME: u32 = 30;
-    pub const FEATURE: u32 = 40;
+    pub const NOT_AVAILABLE_IN_PROFILE: u32 = 40;
 
     pub fn plain(number: u32) -> Self {
         Self::at(number, NO_TOKEN)
@@ -92,7 +94,7 @@ impl Answer {
     }
 
     /// The answer as callers of the proved reader get it.
-    pub fn numbers(self) -> [u32; 4] {
+    pub fn numbers(self) -> [u32; ANSWER_LENGTH] {
         match self {
             Self::Accepted { nodes, steps } => [0, nodes, steps, 0],
             Self::Refused {

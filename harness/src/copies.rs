@@ -67,22 +67,25 @@ macro_rules! reading_with {
                 match error {
                     Error::Empty => Refusal::plain(Refusal::EMPTY),
                     Error::UnexpectedClosingDelimiter { expected, span, .. } => {
-                        at(Refusal::CLOSING_BRACKET, span).detailed(match expected {
+                        at(Refusal::UNEXPECTED_CLOSING_DELIMITER, span).detailed(match expected {
                             None => 0,
                             Some(Delimiter::Parenthesis) => 1,
                             Some(Delimiter::Bracket) => 2,
                         })
                     }
-                    Error::UnexpectedAngle { span } => at(Refusal::ANGLE, span),
-                    Error::TopLevelComma { span } => at(Refusal::COMMA, span),
-                    Error::UnexpectedEndToken => Refusal::at(Refusal::END, first_end(tokens)),
-                    Error::UnclosedDelimiter { span, .. } => at(Refusal::OPEN_BRACKET, span),
-                    Error::UnclosedAngle { span } => at(Refusal::OPEN_ANGLE, span),
-                    Error::MissingTypeWord => Refusal::plain(Refusal::NO_IDENTIFIER),
-                    Error::InvalidBoundaryToken => Refusal::plain(Refusal::BOUNDARY),
+                    Error::UnexpectedAngle { span } => at(Refusal::UNEXPECTED_ANGLE, span),
+                    Error::TopLevelComma { span } => at(Refusal::TOP_LEVEL_COMMA, span),
+                    Error::UnexpectedEndToken => {
+                        Refusal::at(Refusal::UNEXPECTED_END_TOKEN, first_end(tokens))
+                    }
+                    Error::UnclosedDelimiter { span, .. } => at(Refusal::UNCLOSED_DELIMITER, span),
+                    Error::UnclosedAngle { span } => at(Refusal::UNCLOSED_ANGLE, span),
+                    Error::MissingTypeWord => Refusal::plain(Refusal::MISSING_TYPE_WORD),
+                    Error::InvalidBoundaryToken => Refusal::plain(Refusal::INVALID_BOUNDARY_TOKEN),
                     Error::InvalidSyntax(message) => Refusal::plain(syntax_refusal(message)),
                     Error::NotAvailableInProfile(feature) => {
-                        Refusal::plain(Refusal::FEATURE).detailed(feature_detail(feature))
+                        Refusal::plain(Refusal::NOT_AVAILABLE_IN_PROFILE)
+                            .detailed(feature_detail(feature))
                     }
                     Error::Lexical(_) | Error::MissingEndToken => {
                         unreachable!("the stub lexer ends every row")
@@ -110,34 +113,38 @@ fn first_end(tokens: &[TokenKind]) -> u32 {
 /// The messages that leave the original; those of failing tries stay inside.
 fn syntax_refusal(message: &str) -> u32 {
     match message {
-        "type-name nesting limit exceeded" => Refusal::NESTING,
-        "unterminated parenthesized or bracketed type component" => Refusal::GROUP_NOT_CLOSED,
-        "mismatched closing delimiter in type name" => Refusal::WRONG_CLOSER,
-        "unexpected token after the complete type name" => Refusal::LEFT_OVER,
+        "type-name nesting limit exceeded" => Refusal::NESTING_LIMIT_EXCEEDED,
+        "unterminated parenthesized or bracketed type component" => Refusal::UNTERMINATED_GROUP,
+        "mismatched closing delimiter in type name" => Refusal::MISMATCHED_CLOSING_DELIMITER,
+        "unexpected token after the complete type name" => {
+            Refusal::UNEXPECTED_TOKEN_AFTER_TYPE_NAME
+        }
         "tokens do not form a host-language type name" => Refusal::NO_TYPE_NAME,
         _ => panic!("the original refused with an unexpected message: {message}"),
     }
 }
 
-/// The features that refusal 40 names, in the order of its details.
-const FEATURES: [&str; 11] = [
-    "long long type",
-    "_Atomic type specifier",
-    "_BitInt type specifier",
-    "typeof type specifier",
-    "typeof_unqual type specifier",
-    "decltype type specifier",
-    "rvalue reference type",
-    "Fortran kind or length selector",
-    "Fortran derived type",
-    "Fortran polymorphic class type",
-    "Fortran assumed type or assumed rank",
+/// The features that refusal 40 names, with its details and the original's
+/// words.
+#[rustfmt::skip]
+const FEATURES: [(&str, u32, &str); 11] = [
+    ("LongLong", 1, "long long type"),
+    ("Atomic", 2, "_Atomic type specifier"),
+    ("BitInt", 3, "_BitInt type specifier"),
+    ("Typeof", 4, "typeof type specifier"),
+    ("TypeofUnqual", 5, "typeof_unqual type specifier"),
+    ("Decltype", 6, "decltype type specifier"),
+    ("RvalueReference", 7, "rvalue reference type"),
+    ("Selector", 8, "Fortran kind or length selector"),
+    ("DerivedType", 9, "Fortran derived type"),
+    ("Class", 10, "Fortran polymorphic class type"),
+    ("AssumedTypeOrRank", 11, "Fortran assumed type or assumed rank"),
 ];
 
 fn feature_detail(feature: &str) -> u32 {
-    let place = FEATURES.iter().position(|&known| known == feature);
-    let Some(place) = place else {
+    let known = FEATURES.iter().find(|(_, _, words)| *words == feature);
+    let Some((_, detail, _)) = known else {
         panic!("the original lacks an unexpected feature: {feature}");
     };
-    place as u32 + 1
+    *detail
 }

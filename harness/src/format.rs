@@ -1,5 +1,7 @@
 //! The row file: one head record, then token records to its end. All numbers
-//! are little-endian.
+//! are little-endian. The numbers of the format stand here once for the whole
+//! harness, which knows nothing of the proved reader; `tools/numbers` holds
+//! them to the proved definitions.
 
 use std::ops::RangeInclusive;
 
@@ -7,8 +9,13 @@ use crate::answer::Refusal;
 use crate::kind::Kind;
 use crate::profile::{self, HostLanguageProfile};
 
-pub const FILE_LIMIT: usize = 65_536;
+pub const MOST_BYTES: usize = 65_536;
 pub const HEAD_LENGTH: usize = 11;
+// Where the head has its fields.
+pub const LANGUAGE_AT: usize = 4;
+pub const STANDARD_AT: usize = 5;
+pub const FLAG_AT: usize = 6;
+pub const ALLOWANCE_AT: usize = 7;
 pub const HEAD_KIND: u16 = 256;
 pub const GREATEST_FLAG: u8 = 1;
 /// The length of a token record, without its word.
@@ -16,11 +23,15 @@ pub const TOKEN_LENGTH: usize = 12;
 pub const WORD_LENGTHS: RangeInclusive<usize> = 1..=255;
 pub const WORD_BYTES: RangeInclusive<u8> = 33..=126;
 /// The most tokens of a row.
-pub const ROW_LIMIT: usize = 1_024;
+pub const MOST_TOKENS: usize = 1_024;
 /// The numbers of a node record.
 pub const NODE_WIDTH: usize = 3;
 /// The numbers that the tree buffer must hold for each token.
 pub const NUMBERS_PER_TOKEN: usize = 6;
+/// The numbers of an answer.
+pub const ANSWER_LENGTH: usize = 4;
+/// How deep groups and lists may nest.
+pub const MOST_NESTING: usize = 64;
 
 #[derive(Debug, Clone, Copy, PartialEq, Eq)]
 pub struct Head {
@@ -58,15 +69,15 @@ impl Head {
         let Some(&[l0, l1, k0, k1, language, standard, flag, a0, a1, a2, a3]) =
             file.first_chunk::<HEAD_LENGTH>()
         else {
-            return Err(Refusal::plain(Refusal::HEAD));
+            return Err(Refusal::plain(Refusal::INVALID_HEAD));
         };
         let length = u16::from_le_bytes([l0, l1]);
         let kind = u16::from_le_bytes([k0, k1]);
         if usize::from(length) != HEAD_LENGTH || kind != HEAD_KIND || flag > GREATEST_FLAG {
-            return Err(Refusal::plain(Refusal::HEAD));
+            return Err(Refusal::plain(Refusal::INVALID_HEAD));
         }
         if profile::numbered(language, standard).is_none() {
-            return Err(Refusal::plain(Refusal::PROFILE_UNKNOWN));
+            return Err(Refusal::plain(Refusal::UNKNOWN_PROFILE));
         }
         Ok(Self {
             language,
@@ -143,18 +154,18 @@ impl Row {
 
     /// Takes a file apart, with refusals 1 to 5.
     pub fn read(file: &[u8]) -> Result<Self, Refusal> {
-        if file.len() > FILE_LIMIT {
+        if file.len() > MOST_BYTES {
             return Err(Refusal::plain(Refusal::FILE_TOO_LONG));
         }
         let head = Head::read(file)?;
         let mut tokens = Vec::new();
         let mut offset = HEAD_LENGTH;
         while offset < file.len() {
-            if tokens.len() == ROW_LIMIT {
-                return Err(Refusal::plain(Refusal::ROW_TOO_LONG));
+            if tokens.len() == MOST_TOKENS {
+                return Err(Refusal::plain(Refusal::TOO_MANY_RECORDS));
             }
             let Some(token) = Token::read(&file[offset..]) else {
-                return Err(Refusal::plain(Refusal::RECORD_MALFORMED).detailed(offset as u32));
+                return Err(Refusal::plain(Refusal::INVALID_RECORD).detailed(offset as u32));
             };
             offset += token.length();
             tokens.push(token);

@@ -12,12 +12,12 @@ pub fn answer(file: &[u8], tree: &mut [u32]) -> Answer {
         Err(refusal) => return refusal.after(0),
     };
     if tree.len() < NUMBERS_PER_TOKEN * row.tokens.len() {
-        return Refusal::plain(Refusal::BUFFER).after(0);
+        return Refusal::plain(Refusal::SHORT_BUFFER).after(0);
     }
     tree.fill(0);
     let (outcome, steps) = copies::read(&row);
     match outcome {
-        None => Refusal::plain(Refusal::ALLOWANCE).after(steps),
+        None => Refusal::plain(Refusal::ALLOWANCE_PASSED).after(steps),
         Some(Err(refusal)) => refusal.after(steps),
         Some(Ok(nodes)) => {
             write(&nodes, tree);

@@ -4,7 +4,7 @@
 use std::collections::{BTreeMap, BTreeSet};
 
 use crate::answer::{Answer, Refusal};
-use crate::format::{FILE_LIMIT, HEAD_LENGTH, Head, NUMBERS_PER_TOKEN, ROW_LIMIT, Row, Token};
+use crate::format::{HEAD_LENGTH, Head, MOST_BYTES, MOST_TOKENS, NUMBERS_PER_TOKEN, Row, Token};
 use crate::generate::random::Random;
 use crate::generate::{self, Case, DEFAULT_ALLOWANCE};
 use crate::kind::Kind;
@@ -63,12 +63,12 @@ fn outermost() -> Vec<Case> {
         allowance: DEFAULT_ALLOWANCE,
     };
     let row = |tokens| exact(&Row { head, tokens });
-    let words: Vec<Token> = (0..ROW_LIMIT)
+    let words: Vec<Token> = (0..MOST_TOKENS)
         .map(|number| Token::word(&"w".repeat(longest_word(number))))
         .collect();
     let mut longer = words.clone();
     longer[0].word.push('w');
-    let mut stars = vec![Token::plain(Kind::Star); ROW_LIMIT];
+    let mut stars = vec![Token::plain(Kind::Star); MOST_TOKENS];
     stars[0] = Token::word("int");
     let mut more = stars.clone();
     more.push(Token::plain(Kind::Star));
@@ -77,8 +77,8 @@ fn outermost() -> Vec<Case> {
 
 /// The length of a word, so that as many words as a row can have fill a file.
 fn longest_word(number: usize) -> usize {
-    let bytes = FILE_LIMIT - HEAD_LENGTH - ROW_LIMIT * Token::plain(Kind::Identifier).length();
-    bytes / ROW_LIMIT + usize::from(number < bytes % ROW_LIMIT)
+    let bytes = MOST_BYTES - HEAD_LENGTH - MOST_TOKENS * Token::plain(Kind::Identifier).length();
+    bytes / MOST_TOKENS + usize::from(number < bytes % MOST_TOKENS)
 }
 
 /// What makes two cases alike: the answer's number and detail, and the head.
@@ -88,7 +88,7 @@ fn likeness(case: &Case) -> Likeness {
     let answer = oracle::answer(&case.file, &mut vec![0; case.tree_len]);
     let detail = match answer {
         // The details of 4 are offsets.
-        Answer::Refused { number, detail, .. } if number != Refusal::RECORD_MALFORMED => detail,
+        Answer::Refused { number, detail, .. } if number != Refusal::INVALID_RECORD => detail,
         _ => 0,
     };
     let head = match Row::read(&case.file) {
@@ -103,9 +103,9 @@ fn most((refusal, _, _, _, flag): Likeness) -> usize {
     match refusal {
         None if flag == 1 => 36,
         None => 12,
-        Some(Refusal::FILE_TOO_LONG..=Refusal::ROW_TOO_LONG) => 150,
-        Some(Refusal::NESTING) => 1,
-        Some(Refusal::GROUP_NOT_CLOSED | Refusal::WRONG_CLOSER) => 8,
+        Some(Refusal::FILE_TOO_LONG..=Refusal::TOO_MANY_RECORDS) => 150,
+        Some(Refusal::NESTING_LIMIT_EXCEEDED) => 1,
+        Some(Refusal::UNTERMINATED_GROUP | Refusal::MISMATCHED_CLOSING_DELIMITER) => 8,
         Some(Refusal::NO_TYPE_NAME) => 24,
         Some(_) => 3,
     }
@@ -113,7 +113,7 @@ fn most((refusal, _, _, _, flag): Likeness) -> usize {
 
 fn is_short(case: &Case, refusal: Option<u32>) -> bool {
     let longest = match refusal {
-        Some(Refusal::NESTING) => LONGEST_NESTED,
+        Some(Refusal::NESTING_LIMIT_EXCEEDED) => LONGEST_NESTED,
         _ => LONGEST,
     };
     case.file.len() <= longest

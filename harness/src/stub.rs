@@ -5,7 +5,7 @@
 use std::cell::RefCell;
 use std::sync::LazyLock;
 
-use crate::format::ROW_LIMIT;
+use crate::format::MOST_TOKENS;
 use crate::host::ast::{Expr, HostLanguage};
 use crate::host::lexer::{LexError, Token, TokenKind};
 use crate::source::Span;
@@ -17,18 +17,18 @@ thread_local! {
 
 /// The text that the original is called with: one `x` for each token and one
 /// for the closing `End`, so that a token's number can be its place.
-pub static TEXT: LazyLock<String> = LazyLock::new(|| "x".repeat(ROW_LIMIT + 1));
+pub static TEXT: LazyLock<String> = LazyLock::new(|| "x".repeat(MOST_TOKENS + 1));
 
 /// The span of each place of `TEXT`, made once because making one is slow.
 static SPANS: LazyLock<Vec<Span>> = LazyLock::new(|| {
     let place = |number| Span::point(&TEXT, number).expect("a place of the text");
-    (0..=ROW_LIMIT).map(place).collect()
+    (0..=MOST_TOKENS).map(place).collect()
 });
 
 /// The list that a lexer would give: the closing `End` is added, and each
 /// token's span is its number.
 pub fn listed(row: impl ExactSizeIterator<Item = TokenKind>) -> Vec<Token> {
-    assert!(row.len() <= ROW_LIMIT, "there is a span for every token");
+    assert!(row.len() <= MOST_TOKENS, "there is a span for every token");
     let tokens = row.chain([TokenKind::End]).zip(SPANS.iter());
     tokens.map(|(kind, &span)| Token { kind, span }).collect()
 }

@@ -4,6 +4,7 @@
 //! tree along the row, half-used `>>` and all; every step of the walk asserts
 //! that tree and row agree.
 
+use crate::format::NODE_WIDTH;
 use crate::host::lexer::TokenKind;
 
 #[derive(Debug, Clone, Copy, PartialEq, Eq)]
@@ -43,12 +44,12 @@ impl NodeKind {
 }
 
 impl Node {
-    pub fn record(self) -> [u32; 3] {
+    pub fn record(self) -> [u32; NODE_WIDTH] {
         [self.kind as u32, self.token, self.extent]
     }
 
     /// The node of a record that this crate wrote.
-    pub fn of_record([kind, token, extent]: [u32; 3]) -> Self {
+    pub fn of_record([kind, token, extent]: [u32; NODE_WIDTH]) -> Self {
         Self {
             kind: NodeKind::ALL[kind as usize],
             token,

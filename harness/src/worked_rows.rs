@@ -4,7 +4,7 @@
 use HostLanguage::{C, Cpp, Fortran};
 
 use crate::answer::{Answer, NO_TOKEN, Refusal};
-use crate::format::{Head, Row, Token};
+use crate::format::{Head, MOST_NESTING, Row, Token};
 use crate::kind::Kind;
 use crate::lexed;
 use crate::listing::listing;
@@ -78,30 +78,30 @@ const EVERY_LANGUAGE: &[HostLanguage] = &[C, Cpp, Fortran];
 pub const WORKED_ROWS: &[WorkedRow] = &[
     row(Source::Empty, EVERY_LANGUAGE, Standards::Every, 1, refused(Refusal::EMPTY, NO_TOKEN, 0, Some(0))),
     text("int", &[C], C89, 1, accepted(Some(1), Some(2))),
-    text("long long", &[C], C89, 1, refused(Refusal::FEATURE, NO_TOKEN, 1, None)),
+    text("long long", &[C], C89, 1, refused(Refusal::NOT_AVAILABLE_IN_PROFILE, NO_TOKEN, 1, None)),
     text("long long", &[C], C99, 1, accepted(None, Some(3))),
     text("long long long", &[C], C99, 1, refused(Refusal::NO_TYPE_NAME, NO_TOKEN, 0, None)),
     text("long long long", &[C], C99, 0, accepted(None, None)),
-    text("A<b>>", &[Cpp], Standards::Every, 1, refused(Refusal::ANGLE, 3, 0, Some(0))),
+    text("A<b>>", &[Cpp], Standards::Every, 1, refused(Refusal::UNEXPECTED_ANGLE, 3, 0, Some(0))),
     row(Source::CppText("A>>b"), EVERY_LANGUAGE, Standards::Every, 0, accepted(Some(3), Some(3))),
     row(Source::CppText("A>>b"), EVERY_LANGUAGE, Standards::Every, 1, refused(Refusal::NO_TYPE_NAME, NO_TOKEN, 0, None)),
     text("A<B<c>>", &[Cpp], CPP11, 1, accepted(Some(7), Some(8))),
-    text("A<b>::C<d", &[Cpp], Standards::Every, 1, refused(Refusal::OPEN_ANGLE, 1, 0, Some(0))),
-    text("Slots<(Lanes<8)>", &[Cpp], CPP17, 1, refused(Refusal::GROUP_NOT_CLOSED, NO_TOKEN, 0, Some(12))),
-    allowing(11, text("Slots<(Lanes<8)>", &[Cpp], CPP17, 1, refused(Refusal::ALLOWANCE, NO_TOKEN, 0, Some(11)))),
-    text("X<([A<b]>c)>", &[Cpp], Standards::Every, 1, refused(Refusal::WRONG_CLOSER, NO_TOKEN, 0, None)),
-    text("int&", &[C], Standards::Every, 1, refused(Refusal::BOUNDARY, NO_TOKEN, 0, Some(0))),
+    text("A<b>::C<d", &[Cpp], Standards::Every, 1, refused(Refusal::UNCLOSED_ANGLE, 1, 0, Some(0))),
+    text("Slots<(Lanes<8)>", &[Cpp], CPP17, 1, refused(Refusal::UNTERMINATED_GROUP, NO_TOKEN, 0, Some(12))),
+    allowing(11, text("Slots<(Lanes<8)>", &[Cpp], CPP17, 1, refused(Refusal::ALLOWANCE_PASSED, NO_TOKEN, 0, Some(11)))),
+    text("X<([A<b]>c)>", &[Cpp], Standards::Every, 1, refused(Refusal::MISMATCHED_CLOSING_DELIMITER, NO_TOKEN, 0, None)),
+    text("int&", &[C], Standards::Every, 1, refused(Refusal::INVALID_BOUNDARY_TOKEN, NO_TOKEN, 0, Some(0))),
     text("int&", &[Cpp], CPP98, 1, accepted(None, None)),
-    row(Source::Groups(64), EVERY_LANGUAGE, Standards::Every, 0, accepted(None, Some(65))),
-    row(Source::Groups(65), EVERY_LANGUAGE, Standards::Every, 0, refused(Refusal::NESTING, NO_TOKEN, 0, None)),
+    row(Source::Groups(MOST_NESTING), EVERY_LANGUAGE, Standards::Every, 0, accepted(None, Some(65))),
+    row(Source::Groups(MOST_NESTING + 1), EVERY_LANGUAGE, Standards::Every, 0, refused(Refusal::NESTING_LIMIT_EXCEEDED, NO_TOKEN, 0, None)),
     // Tokens 129 and 195 are the innermost `<` and the last `>`.
-    row(Source::Lists(65), &[Cpp], Standards::Every, 0, Expected::Lines { steps: 132, lines: &["64 T 129 1", "0 T 195 1"] }),
+    row(Source::Lists(MOST_NESTING + 1), &[Cpp], Standards::Every, 0, Expected::Lines { steps: 132, lines: &["64 T 129 1", "0 T 195 1"] }),
     text("real*8", &[Fortran], FORTRAN77, 1, accepted(Some(3), Some(4))),
     text("character*(*)", &[Fortran], Standards::Every, 1, refused(Refusal::NO_TYPE_NAME, NO_TOKEN, 0, None)),
     text("character*(*)", &[Fortran], Standards::Every, 0, accepted(Some(4), None)),
-    text("unsigned _BitInt(8)", &[C], C11, 1, refused(Refusal::FEATURE, NO_TOKEN, 3, None)),
+    text("unsigned _BitInt(8)", &[C], C11, 1, refused(Refusal::NOT_AVAILABLE_IN_PROFILE, NO_TOKEN, 3, None)),
     text("unsigned _BitInt(8)", &[C], C23, 1, accepted(None, None)),
-    text("LONG LONG", &[C], C89, 0, refused(Refusal::FEATURE, NO_TOKEN, 1, None)),
+    text("LONG LONG", &[C], C89, 0, refused(Refusal::NOT_AVAILABLE_IN_PROFILE, NO_TOKEN, 1, None)),
     allowing(1_000, text("Lane<(Key<8>>2)>", &[Cpp], CPP17, 0, Expected::Listing(LANE))),
     allowing(1_000, text("Lane<(Key<8>>2)>", &[Cpp], CPP17, 1, Expected::Listing("no 30 65535 0 14\n"))),
 ];

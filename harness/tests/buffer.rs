@@ -3,7 +3,9 @@
 use HostLanguage::{C, Cpp};
 
 use harness::answer::{Answer, Refusal};
-use harness::format::{Head, NODE_WIDTH, NUMBERS_PER_TOKEN, Row, Token};
+use harness::format::{
+    Head, MOST_BYTES, MOST_NESTING, MOST_TOKENS, NODE_WIDTH, NUMBERS_PER_TOKEN, Row, Token,
+};
 use harness::generate::cases;
 use harness::kind::Kind;
 use harness::profile::{HostLanguage, MEANT_STANDARD, language_number, profile};
@@ -49,7 +51,8 @@ fn refused_rows() -> Vec<(Refusal, Row)> {
     let mut stopped = text(C, 1, "int");
     stopped.head.allowance = 1;
     let mut too_deep = text(C, 1, "int");
-    let nested = [Kind::LeftParen, Kind::RightParen].map(|kind| vec![Token::plain(kind); 65]);
+    let nested =
+        [Kind::LeftParen, Kind::RightParen].map(|kind| vec![Token::plain(kind); MOST_NESTING + 1]);
     too_deep.tokens.extend(nested.concat());
     vec![
         (Refusal::plain(10), row(C, 1, Vec::new())),
@@ -98,9 +101,9 @@ fn refusals_to_6_leave_it_alone() {
         file[place] = byte;
         file
     };
-    let long_row = row(C, 1, vec![Token::word("int"); 1_025]).write();
+    let long_row = row(C, 1, vec![Token::word("int"); MOST_TOKENS + 1]).write();
     let cases = [
-        (1, vec![0; 65_537], 9),
+        (1, vec![0; MOST_BYTES + 1], 9),
         (2, with(6, 2), 9),
         (3, with(4, 3), 9),
         (4, with(11, 11), 9),

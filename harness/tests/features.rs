@@ -25,7 +25,7 @@ fn lacking(answer: Answer) -> u32 {
     match answer {
         Answer::Accepted { .. } => 0,
         Answer::Refused {
-            number: Refusal::FEATURE,
+            number: Refusal::NOT_AVAILABLE_IN_PROFILE,
             token: NO_TOKEN,
             detail,
             ..

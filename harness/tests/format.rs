@@ -1,7 +1,7 @@
 //! Files, records and their refusals, as document 01 has them.
 
 use harness::answer::{NO_TOKEN, Refusal};
-use harness::format::{Head, Row, Token};
+use harness::format::{Head, MOST_BYTES, MOST_TOKENS, Row, Token};
 use harness::kind::Kind;
 
 const C89: Head = Head {
@@ -53,15 +53,15 @@ fn records_are_laid_out_as_written() {
 #[test]
 fn heads_are_refused() {
     for length in 0..head_bytes().len() {
-        assert_eq!(refusal(&head_bytes()[..length]), (Refusal::HEAD, 0));
+        assert_eq!(refusal(&head_bytes()[..length]), (Refusal::INVALID_HEAD, 0));
     }
     for (place, byte) in [(0, 10), (0, 12), (1, 1), (2, 1), (3, 0), (6, 2), (6, 255)] {
-        assert_eq!(refusal(&changed(place, byte)), (Refusal::HEAD, 0));
+        assert_eq!(refusal(&changed(place, byte)), (Refusal::INVALID_HEAD, 0));
     }
     let mut flag_and_language = changed(4, 3);
     flag_and_language[6] = 2;
-    assert_eq!(refusal(&flag_and_language), (Refusal::HEAD, 0));
-    assert_eq!(refusal(&changed(4, 3)), (Refusal::PROFILE_UNKNOWN, 0));
+    assert_eq!(refusal(&flag_and_language), (Refusal::INVALID_HEAD, 0));
+    assert_eq!(refusal(&changed(4, 3)), (Refusal::UNKNOWN_PROFILE, 0));
 }
 
 #[test]
@@ -73,7 +73,7 @@ fn each_language_knows_its_standards() {
             if standard < count || standard == 255 {
                 assert!(Row::read(&file).is_ok());
             } else {
-                assert_eq!(refusal(&file), (Refusal::PROFILE_UNKNOWN, 0));
+                assert_eq!(refusal(&file), (Refusal::UNKNOWN_PROFILE, 0));
             }
         }
     }
@@ -81,21 +81,21 @@ fn each_language_knows_its_standards() {
 
 #[test]
 fn long_files_are_refused_before_their_heads() {
-    let mut file = vec![0; 65_536];
+    let mut file = vec![0; MOST_BYTES];
     assert_eq!(refusal(&file), (Refusal::FILE_TOO_LONG + 1, 0));
     file.push(0);
     assert_eq!(refusal(&file), (Refusal::FILE_TOO_LONG, 0));
 }
 
 #[test]
-fn a_row_has_at_most_1024_records() {
-    let mut file = file(&vec![Token::plain(Kind::Star); 1_024]);
-    assert_eq!(Row::read(&file).unwrap().tokens.len(), 1_024);
+fn a_row_has_so_many_records_at_most() {
+    let mut file = file(&vec![Token::plain(Kind::Star); MOST_TOKENS]);
+    assert_eq!(Row::read(&file).unwrap().tokens.len(), MOST_TOKENS);
     file.push(0);
-    assert_eq!(refusal(&file), (Refusal::ROW_TOO_LONG, 0));
+    assert_eq!(refusal(&file), (Refusal::TOO_MANY_RECORDS, 0));
     // A record before that is found first, whatever follows.
     file[11] = 13;
-    assert_eq!(refusal(&file), (Refusal::RECORD_MALFORMED, 11));
+    assert_eq!(refusal(&file), (Refusal::INVALID_RECORD, 11));
 }
 
 #[test]
@@ -118,7 +118,7 @@ fn malformed_records_are_refused_at_their_first_byte() {
         let file = [good.clone(), record].concat();
         assert_eq!(
             refusal(&file),
-            (Refusal::RECORD_MALFORMED, place as u32),
+            (Refusal::INVALID_RECORD, place as u32),
             "{file:?}"
         );
     }

@@ -42,7 +42,7 @@ fn every_answer_is_drawn() {
             }
             Answer::Refused { number, detail, .. } => {
                 // The details of 4 are offsets.
-                let offset = number == Refusal::RECORD_MALFORMED;
+                let offset = number == Refusal::INVALID_RECORD;
                 refusals.insert((number, if offset { 0 } else { detail }));
             }
         }
@@ -53,8 +53,8 @@ fn every_answer_is_drawn() {
     let expected: BTreeSet<(u32, u32)> = plain
         .map(|number| (number, 0))
         .into_iter()
-        .chain((0..=2).map(|detail| (Refusal::CLOSING_BRACKET, detail)))
-        .chain((1..=11).map(|detail| (Refusal::FEATURE, detail)))
+        .chain((0..=2).map(|detail| (Refusal::UNEXPECTED_CLOSING_DELIMITER, detail)))
+        .chain((1..=11).map(|detail| (Refusal::NOT_AVAILABLE_IN_PROFILE, detail)))
         .collect();
     // In particular 23 never comes.
     assert_eq!(refusals, expected);
@@ -96,7 +96,7 @@ fn the_allowance_decides_25_and_nothing_else() {
         };
         let result = answer(at);
         let steps = result.steps();
-        let passed = |allowance| Refusal::plain(Refusal::ALLOWANCE).after(allowance);
+        let passed = |allowance| Refusal::plain(Refusal::ALLOWANCE_PASSED).after(allowance);
         for same in [above, greatest, longer] {
             assert_eq!(answer(same), result);
         }
@@ -108,8 +108,8 @@ fn the_allowance_decides_25_and_nothing_else() {
             assert_eq!(answer(none), result);
         }
         if at.tree_len > 0 {
-            assert_eq!(answer(short).refusal(), Some(Refusal::BUFFER));
-            assert_eq!(answer(empty).refusal(), Some(Refusal::BUFFER));
+            assert_eq!(answer(short).refusal(), Some(Refusal::SHORT_BUFFER));
+            assert_eq!(answer(empty).refusal(), Some(Refusal::SHORT_BUFFER));
         }
     }
     assert!(steps_seen > 1_000);
@@ -188,6 +188,12 @@ fn the_small_alphabet_has_the_shortest_row_of_22() {
         right,
     ];
     let [_, _, cpp, cpp_checked, ..] = exhaustive::each_way(row);
-    assert_eq!(answer(&cpp).refusal(), Some(Refusal::WRONG_CLOSER));
-    assert_eq!(answer(&cpp_checked).refusal(), Some(Refusal::WRONG_CLOSER));
+    assert_eq!(
+        answer(&cpp).refusal(),
+        Some(Refusal::MISMATCHED_CLOSING_DELIMITER)
+    );
+    assert_eq!(
+        answer(&cpp_checked).refusal(),
+        Some(Refusal::MISMATCHED_CLOSING_DELIMITER)
+    );
 }

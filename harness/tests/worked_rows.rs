@@ -43,7 +43,7 @@ fn the_listing_of_the_example() {
 #[test]
 fn a_wrong_number_is_found() {
     let accepted = Answer::Accepted { nodes: 0, steps: 2 };
-    let refused = Refusal::at(Refusal::ANGLE, 3).after(0);
+    let refused = Refusal::at(Refusal::UNEXPECTED_ANGLE, 3).after(0);
     let given = |nodes, steps| Expected::Accepted { nodes, steps };
     let expected = |number, token, detail, steps| Expected::Refused {
         number,

@@ -3,7 +3,7 @@
 use std::fs;
 
 use harness::answer::Refusal;
-use harness::format::{Head, ROW_LIMIT, Row, Token};
+use harness::format::{Head, MOST_NESTING, MOST_TOKENS, Row, Token, WORD_LENGTHS};
 use harness::generate;
 use harness::kind::Kind;
 use harness::names::names;
@@ -85,21 +85,21 @@ fn generated(style: &str) -> Vec<Row> {
 fn comparable(mut row: Row) -> Option<Row> {
     row.head.allowance = MOST_STEPS;
     let (answer, _) = oracle::answer_with_tree(&row.write());
-    (answer.refusal() != Some(Refusal::ALLOWANCE)).then_some(row)
+    (answer.refusal() != Some(Refusal::ALLOWANCE_PASSED)).then_some(row)
 }
 
 /// Rows made for one question each: a fixed cost, growth with tokens, growth with nesting, the reader's worst case, long words.
 fn made() -> impl Iterator<Item = (String, Vec<Token>)> {
     let open_list = [word("A"), plain(Kind::Less)];
     let open_group = [word("A"), plain(Kind::LeftParen)];
-    let long_words = [word(&"w".repeat(255)), plain(Kind::Scope)];
+    let long_words = [word(&"w".repeat(*WORD_LENGTHS.end())), plain(Kind::Scope)];
     let one = [("one token".to_owned(), vec![word("int")])].into_iter();
-    let flat = [16, 64, 256, ROW_LIMIT].map(|n| (format!("one list, {n} tokens"), list(n)));
-    let lists = [1, 4, 16, 64].map(|n| {
+    let flat = [16, 64, 256, MOST_TOKENS].map(|n| (format!("one list, {n} tokens"), list(n)));
+    let lists = [1, 4, 16, MOST_NESTING].map(|n| {
         let row = nested(n, &open_list, Kind::Greater);
         (format!("lists, {n} deep"), row)
     });
-    let groups = [1, 4, 16, 64].map(|n| {
+    let groups = [1, 4, 16, MOST_NESTING].map(|n| {
         let row = nested(n, &open_group, Kind::RightParen);
         (format!("parentheses, {n} deep"), row)
     });
@@ -168,6 +168,6 @@ fn repeated(tokens: &[Token], count: usize) -> Vec<Token> {
 }
 
 fn stars() -> Vec<Token> {
-    let stars = std::iter::repeat_n(plain(Kind::Star), ROW_LIMIT - 1);
+    let stars = std::iter::repeat_n(plain(Kind::Star), MOST_TOKENS - 1);
     [word("int")].into_iter().chain(stars).collect()
 }

@@ -9,7 +9,7 @@ use std::time::{Duration, Instant};
 
 use harness::format::{NUMBERS_PER_TOKEN, Row};
 use harness::token_list::{TokenList, TypeName, TypeNameError};
-use type_name::type_name_read;
+use type_name::{ANSWER_LENGTH, type_name_read};
 
 mod classes;
 mod stack;
@@ -143,7 +143,7 @@ fn original<T>(lists: Vec<TokenList>, keep: impl Fn(Read) -> T) -> Duration {
 fn proved_reads(inputs: &Inputs, tree: &mut [u32]) -> u32 {
     let mut sum = 0u32;
     for (file, &room) in inputs.files.iter().zip(&inputs.rooms) {
-        let mut answer = [0; 4];
+        let mut answer = [0; ANSWER_LENGTH];
         sum = sum.wrapping_add(type_name_read(file, &mut tree[..room], &mut answer));
     }
     sum

@@ -5,7 +5,7 @@ use std::mem::MaybeUninit;
 use std::thread;
 
 use harness::format::{NUMBERS_PER_TOKEN, Row};
-use type_name::type_name_read;
+use type_name::{ANSWER_LENGTH, type_name_read};
 
 /// More than any row takes.
 const PAINTED: usize = 512 * 1024;
@@ -22,7 +22,7 @@ pub fn most(rows: Vec<Row>) -> usize {
         let of_row = |row: &Row| {
             let file = row.write();
             let mut tree = vec![0; NUMBERS_PER_TOKEN * row.tokens.len()];
-            let mut answer = [0; 4];
+            let mut answer = [0; ANSWER_LENGTH];
             touched(|| {
                 type_name_read(&file, &mut tree, &mut answer);
             })

@@ -4,11 +4,12 @@
 use std::collections::BTreeMap;
 use std::process::ExitCode;
 
-use harness::answer::Answer;
+use harness::answer::{Answer, Refusal};
+use harness::format::FLAG_AT;
 use harness::generate::exhaustive::{self, Alphabet};
 use harness::generate::{self, Case};
 use harness::oracle;
-use type_name::type_name_read;
+use type_name::{ANSWER_LENGTH, type_name_read};
 
 mod corpus;
 
@@ -22,9 +23,6 @@ side_by_side --corpus FILE [--verdicts FILE]
     The type names of a file (language, source and text, parted by tabs), lexed by the original's lexer: standard 255 and
     the latest with flag 1 and 0, the earliest with flag 1. Verdicts: what each name gets with standard 255 and flag 1.
 ";
-
-/// Where the head has its structure flag.
-const FLAG: usize = 6;
 
 /// What the buffer holds before a call.
 const DIRT: u32 = 0xdead_beef;
@@ -106,10 +104,13 @@ impl Tally {
         let mut expected = vec![DIRT; case.tree_len];
         let answer = oracle::answer(&case.file, &mut expected);
         *self.answers.entry(answer.refusal()).or_default() += 1;
-        let read_whole = matches!(answer.refusal(), None | Some(30) | Some(40));
-        self.checked += u64::from(read_whole && case.file.get(FLAG) == Some(&1));
+        let read_whole = matches!(
+            answer.refusal(),
+            None | Some(Refusal::NO_TYPE_NAME | Refusal::NOT_AVAILABLE_IN_PROFILE)
+        );
+        self.checked += u64::from(read_whole && case.file.get(FLAG_AT) == Some(&1));
         let mut tree = vec![DIRT; case.tree_len];
-        let mut numbers = [DIRT; 4];
+        let mut numbers = [DIRT; ANSWER_LENGTH];
         let returned = type_name_read(&case.file, &mut tree, &mut numbers);
         if numbers != answer.numbers() || returned != numbers[0] || tree != expected {
             self.differ += 1;

@@ -6,8 +6,9 @@ use harness::generate::{Case, cases};
 use harness::listing::listing;
 use harness::oracle;
 use harness::profile::MEANT_STANDARD;
-use type_name::{CStandard, CppStandard, FortranStandard, HostLanguageProfile};
-use type_name::{Head, Refusal, Row, TokenKind, parse_type_name};
+use type_name::{
+    Head, HostLanguageProfile, Refusal, Row, StructureCheck, TokenKind, parse_type_name,
+};
 
 const CASES: usize = 100_000;
 
@@ -26,15 +27,15 @@ fn refused(refusal: Refusal) -> Answer {
 
 /// What the program `listing` would print.
 fn listed(case: &Case) -> String {
-    let mut tree = vec![0; case.tree_len];
-    let accepted = match parse_type_name(&case.file, &mut tree) {
-        Ok(accepted) => accepted,
+    let mut buffer = vec![0; case.tree_len];
+    let tree = match parse_type_name(&case.file, &mut buffer) {
+        Ok(tree) => tree,
         Err(refusal) => return format!("{}\n", refused(refusal)),
     };
-    let mut text = format!("ok {} {}\n", accepted.nodes, accepted.steps);
-    for (level, node) in accepted.top_level(&tree).with_levels() {
+    let mut text = format!("ok {} {}\n", tree.node_count(), tree.steps());
+    for (level, node) in tree.with_levels() {
         let letter = node.kind.letter();
-        text += &format!("{level} {letter} {} {}\n", node.token, node.extent);
+        text += &format!("{level} {letter} {} {}\n", node.token.number, node.extent);
     }
     text
 }
@@ -50,23 +51,8 @@ fn answers_and_nodes_are_the_originals() {
 
 /// The crate's profile of the same name as the harness's.
 fn profile(row: &format::Row) -> HostLanguageProfile {
-    use CStandard::*;
-    use CppStandard::*;
-    use FortranStandard::*;
-    let c = [C89, C99, C11, C18, C23].map(HostLanguageProfile::C);
-    let cpp = [Cpp98, Cpp11, Cpp14, Cpp17, Cpp20, Cpp23].map(HostLanguageProfile::Cpp);
-    let fortran = [
-        Fortran77,
-        Fortran90,
-        Fortran95,
-        Fortran2003,
-        Fortran2008,
-        Fortran2018,
-        Fortran2023,
-    ];
-    let fortran = fortran.map(HostLanguageProfile::Fortran);
     let name = format!("{:?}", row.profile());
-    let mut all = c.into_iter().chain(cpp).chain(fortran);
+    let mut all = HostLanguageProfile::all();
     all.find(|profile| format!("{profile:?}") == name).unwrap()
 }
 
@@ -74,13 +60,14 @@ fn profile(row: &format::Row) -> HostLanguageProfile {
 fn laid_out(row: &format::Row) -> Vec<u8> {
     let mut file = Row::new(Head {
         profile: profile(row),
-        structure: row.head.flag == 1,
+        structure: StructureCheck::try_from(u32::from(row.head.flag)).unwrap(),
         allowance: row.head.allowance,
     });
     for token in &row.tokens {
-        let kind = TokenKind::numbered(token.kind.number().into()).unwrap();
+        let kind = TokenKind::try_from(u32::from(token.kind.number())).unwrap();
         assert_eq!(format!("{kind:?}"), format!("{:?}", token.kind));
-        file.push(kind, &token.word, token.start..token.end);
+        file.push(kind, &token.word, token.start..token.end)
+            .unwrap();
     }
     file.bytes().to_vec()
 }

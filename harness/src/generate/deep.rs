@@ -3,7 +3,7 @@
 use super::random::Random;
 use super::writer::Writer;
 use super::{Draft, written};
-use crate::format::{ROW_LIMIT, Token};
+use crate::format::{MOST_NESTING, MOST_TOKENS, Token};
 use crate::kind::Kind;
 use crate::profile::{HostLanguage, LANGUAGES};
 
@@ -45,7 +45,7 @@ const OPENERS: [Opener; 6] = [
 impl Writer<'_> {
     /// One opener throughout, or two in any order, 61 to 67 deep.
     fn nested(&mut self) {
-        let depth = 61 + self.random.below(7);
+        let depth = MOST_NESTING - 3 + self.random.below(7);
         let usual = *self.random.pick(&OPENERS);
         let other = *self.random.pick(&OPENERS);
         let others = self.random.below(4);
@@ -94,7 +94,7 @@ impl Writer<'_> {
 
     /// A row of 1,019 to 1,026 tokens, one or two of them over and over.
     fn long_row(&mut self) {
-        let length = ROW_LIMIT - 5 + self.random.below(8);
+        let length = MOST_TOKENS - 5 + self.random.below(8);
         let star = || Token::plain(Kind::Star);
         match self.random.below(5) {
             0 => self.filled(&[star()], &[], length),

@@ -5,15 +5,14 @@
 
 use super::random::Random;
 use super::{Case, DEFAULT_ALLOWANCE, dressed, grammatical};
-use crate::format::{FILE_LIMIT, HEAD_LENGTH, ROW_LIMIT, Row, TOKEN_LENGTH, Token, WORD_LENGTHS};
+use crate::format::{
+    ALLOWANCE_AT, FLAG_AT, HEAD_LENGTH, LANGUAGE_AT, MOST_BYTES, MOST_TOKENS, Row, STANDARD_AT,
+    TOKEN_LENGTH, Token, WORD_LENGTHS,
+};
 use crate::kind::Kind;
 use crate::profile::{LANGUAGES, MEANT_STANDARD};
 
-// Where the fields stand: in the file for the head, else in the record.
-const HEAD_LANGUAGE: usize = 4;
-const HEAD_STANDARD: usize = 5;
-const HEAD_FLAG: usize = 6;
-const HEAD_ALLOWANCE: usize = 7;
+// Where a record has its fields; a head has its kind there, too.
 const KIND: usize = 2;
 const SPAN_START: usize = 4;
 const SPAN_END: usize = 8;
@@ -65,7 +64,7 @@ pub fn malformed(random: &mut Random) -> Case {
 
 /// Keeps a file that is a good one after all from running for long.
 fn limit_allowance(file: &mut [u8]) {
-    let Some(field) = file.get_mut(HEAD_ALLOWANCE..HEAD_LENGTH) else {
+    let Some(field) = file.get_mut(ALLOWANCE_AT..HEAD_LENGTH) else {
         return;
     };
     let bytes = field.try_into().expect("an allowance has four bytes");
@@ -104,17 +103,17 @@ fn head_kind(random: &mut Random, file: &mut Vec<u8>) {
 }
 
 fn flag(random: &mut Random, file: &mut Vec<u8>) {
-    file[HEAD_FLAG] = *random.pick(&[2, 3, 128, 255]);
+    file[FLAG_AT] = *random.pick(&[2, 3, 128, 255]);
 }
 
 fn language(random: &mut Random, file: &mut Vec<u8>) {
     let unknown = LANGUAGES.len() as u8;
-    file[HEAD_LANGUAGE] = *random.pick(&[unknown, unknown + 1, 255]);
+    file[LANGUAGE_AT] = *random.pick(&[unknown, unknown + 1, 255]);
 }
 
 /// Any number from just below the last standard of C to 255.
 fn standard(random: &mut Random, file: &mut Vec<u8>) {
-    file[HEAD_STANDARD] = *random.pick(&[4, 5, 6, 7, 8, 128, MEANT_STANDARD - 1]);
+    file[STANDARD_AT] = *random.pick(&[4, 5, 6, 7, 8, 128, MEANT_STANDARD - 1]);
 }
 
 fn flag_and_language(random: &mut Random, file: &mut Vec<u8>) {
@@ -182,7 +181,7 @@ fn tail(random: &mut Random, file: &mut Vec<u8>) {
 /// 1,024 records or one more; then nothing, a byte or a malformed record.
 fn row_too_long(random: &mut Random, file: &mut Vec<u8>) {
     let row = Row::read(file).expect("the file is still whole");
-    let records = ROW_LIMIT + random.below(2);
+    let records = MOST_TOKENS + random.below(2);
     for _ in row.tokens.len()..records {
         Token::plain(Kind::Star).write(file);
     }
@@ -195,7 +194,7 @@ fn row_too_long(random: &mut Random, file: &mut Vec<u8>) {
 
 /// Whole records to the file limit or one byte more, the head bad at times.
 fn file_too_long(random: &mut Random, file: &mut Vec<u8>) {
-    let length = FILE_LIMIT + random.below(2);
+    let length = MOST_BYTES + random.below(2);
     let longest = TOKEN_LENGTH + WORD_LENGTHS.end();
     while file.len() < length {
         // Two records share the end, so that neither is too short for a word.

@@ -171,7 +171,7 @@ pub fn around(case: &Case) -> Vec<Case> {
         Case { file, tree_len }
     };
     let (answer, _) = oracle::answer_with_tree(&with(DEFAULT_ALLOWANCE, needed).file);
-    if answer.refusal() == Some(Refusal::ALLOWANCE) {
+    if answer.refusal() == Some(Refusal::ALLOWANCE_PASSED) {
         return Vec::new();
     }
     let steps = answer.steps();
