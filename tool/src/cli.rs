@@ -4,6 +4,7 @@ use std::ffi::OsString;
 use std::io::{self, Write};
 use std::process::ExitCode;
 
+use crate::excerpt::visible;
 use crate::read;
 
 const HELP: &str = "\
@@ -57,8 +58,9 @@ pub fn run(arguments: Vec<OsString>) -> ExitCode {
 }
 
 fn wrong(message: &str) -> ExitCode {
+    let lines: Vec<String> = message.trim_end().lines().map(visible).collect();
     // There is nowhere to say that this cannot be said.
-    let _ = writeln!(io::stderr(), "type-name: {}", message.trim_end());
+    let _ = writeln!(io::stderr(), "type-name: {}", lines.join("\n"));
     ExitCode::from(2)
 }
 
