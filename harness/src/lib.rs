@@ -1,5 +1,6 @@
-//! The original reader behind the interface of document 01, and a generator
-//! of files to compare it with.
+//! The original reader behind the interface of document 01 (the scope paper;
+//! docs/FORMAT.md has what a user needs of it), and a generator of files to
+//! compare it with.
 //!
 //! `oracle::answer` is what document 01's entry has to answer, found by
 //! running the original. Everything else serves it: `format` takes files

@@ -1,7 +1,7 @@
 //! Files, records and their refusals, as document 01 has them.
 
 use harness::answer::{NO_TOKEN, Refusal};
-use harness::format::{Head, MOST_BYTES, MOST_TOKENS, Row, Token};
+use harness::format::{FLAG_AT, Head, MOST_BYTES, MOST_TOKENS, Row, STANDARD_AT, Token};
 use harness::kind::Kind;
 
 const C89: Head = Head {
@@ -59,7 +59,7 @@ fn heads_are_refused() {
         assert_eq!(refusal(&changed(place, byte)), (Refusal::INVALID_HEAD, 0));
     }
     let mut flag_and_language = changed(4, 3);
-    flag_and_language[6] = 2;
+    flag_and_language[FLAG_AT] = 2;
     assert_eq!(refusal(&flag_and_language), (Refusal::INVALID_HEAD, 0));
     assert_eq!(refusal(&changed(4, 3)), (Refusal::UNKNOWN_PROFILE, 0));
 }
@@ -69,7 +69,7 @@ fn each_language_knows_its_standards() {
     for (language, count) in [(0, 5), (1, 6), (2, 7)] {
         for standard in 0..=255 {
             let mut file = changed(4, language);
-            file[5] = standard;
+            file[STANDARD_AT] = standard;
             if standard < count || standard == 255 {
                 assert!(Row::read(&file).is_ok());
             } else {

@@ -2,7 +2,7 @@
 
 use std::collections::BTreeSet;
 
-use harness::format::{NUMBERS_PER_TOKEN, Row};
+use harness::format::{ALLOWANCE_AT, HEAD_LENGTH, NUMBERS_PER_TOKEN, Row};
 use harness::replay::list;
 
 /// A case as the list has it.
@@ -111,7 +111,7 @@ fn the_list_holds_every_answer_and_is_the_one_that_is_replayed() {
     let one_less = |case: &&Stored| {
         let with = |allowance: u32| {
             let mut file = case.file.clone();
-            file[7..11].copy_from_slice(&allowance.to_le_bytes());
+            file[ALLOWANCE_AT..HEAD_LENGTH].copy_from_slice(&allowance.to_le_bytes());
             file
         };
         case.answer[0] == 25

@@ -1,4 +1,4 @@
-//! The rows that document 01 works out, with every number it gives. The expected answers are that document's, none comes
+//! The rows that document 01 (the scope paper) works out, with every number it gives. The expected answers are its own, none comes
 //! from a run of this reader.
 
 mod support;

@@ -44,10 +44,10 @@ pub fn refused(refusal: Refusal, hint: Option<&Hint>) -> String {
         .map_or("null".to_owned(), |token| token.to_string());
     let sentence = string(&refusal.error.to_string());
     let hint = hint.map_or("null".to_owned(), |hint| string(&hint.to_string()));
-    format!(
-        "{{\"accepted\":false,\"refusal\":{number},\"name\":\"{name}\",\"sentence\":{sentence},\"token\":{token},\"detail\":{},\"steps\":{},\"hint\":{hint}}}\n",
-        refusal.detail, refusal.steps
-    )
+    let why = format!("\"refusal\":{number},\"name\":\"{name}\",\"sentence\":{sentence}");
+    let Refusal { detail, steps, .. } = refusal;
+    let rest = format!("\"token\":{token},\"detail\":{detail},\"steps\":{steps},\"hint\":{hint}");
+    format!("{{\"accepted\":false,{why},{rest}}}\n")
 }
 
 /// A JSON string.

@@ -1,6 +1,6 @@
 //! A refusal in words.
 
-use type_name::{Refusal, TypeNameError};
+use type_name::{Refusal, Tokens, TypeNameError};
 
 use crate::excerpt::excerpt;
 use crate::hints::Hint;
@@ -10,7 +10,7 @@ use crate::source::Source;
 pub fn sentence(source: &Source, refusal: Refusal, hint: Option<&Hint>) -> String {
     let mut said = refusal.to_string();
     let Some(text) = &source.text else {
-        return said + "\n";
+        return said + &token_of_file(source, refusal) + "\n";
     };
     if refusal.error == TypeNameError::NotAvailableInProfile {
         said += &format!(" ({})", text.head.profile);
@@ -22,4 +22,17 @@ pub fn sentence(source: &Source, refusal: Refusal, hint: Option<&Hint>) -> Strin
         said += &format!("{hint}\n");
     }
     said
+}
+
+/// The token that is named, as a row file has it.
+fn token_of_file(source: &Source, refusal: Refusal) -> String {
+    let named = refusal.token.map(|number| number as usize);
+    let token = named.and_then(|number| Tokens::new(&source.file).nth(number));
+    token.map_or_else(String::new, |token| {
+        let spelling = source.spelling(token);
+        format!(
+            "\n    token {}: `{spelling}`, from {} to {}",
+            token.number, token.start, token.end
+        )
+    })
 }

@@ -66,7 +66,19 @@ refusal 12: an angle stands outside brackets where none can stand (token 5)
     \t    ^^
 ";
     assert_eq!(two_lines, expected);
+}
+
+#[test]
+fn a_refusal_of_a_row_file_names_the_token_s_place() {
     assert!(refused(&["--file", "/dev/null"]).starts_with("refusal 2: the head record"));
+    // The last token of `Lane<(Key<8>>2)>` for another: an angle stays open.
+    let mut file = include_bytes!("../../examples/lane.row").to_vec();
+    let kind = file.len() - 10;
+    file[kind] = 21;
+    let words = ["read", "--file", "-"].map(OsStr::new);
+    let expected =
+        "refusal 16: an angle is never closed (token 1)\n    token 1: `<`, from 4 to 5\n";
+    assert_eq!(called_with(&words, &file).out, expected);
 }
 
 #[test]

@@ -25,46 +25,28 @@ fn texts_with_a_slash_are_texts() {
     assert_eq!(called(&["read", "--text", "lane.row"]).status, 1);
 }
 
+/// Wrong calls, and what each is told.
+#[rustfmt::skip]
+const WRONG: [(&[&str], &str); 14] = [
+    (&[], "a command is missing"),
+    (&["reed", "int"], "no command `reed`"),
+    (&["read"], "a TEXT or --file ROW is missing"),
+    (&["read", "int", "long"], "`long` is one word too many"),
+    (&["read", "--lang", "c", "int"], "no option --lang"),
+    (&["read", "--language", "pascal", "int"], "no language `pascal`"),
+    (&["read", "--standard", "c++18", "int"], "no standard `c++18`"),
+    (&["read", "--language", "c", "--standard", "f77", "int"], "f77 is no standard of C"),
+    (&["read", "int", "--allowance"], "--allowance needs a value"),
+    (&["read", "int", "--allowance", "-1"], "--allowance needs a whole number"),
+    (&["read", "--json", "--json", "int"], "--json is given twice"),
+    (&["read", "--json", "--listing", "int"], "exclude each other"),
+    (&["read", "--file", "lane.row", "int"], "one of TEXT"),
+    (&["read", "--file", "lane.row", "--language", "c"], "the row file says what --language would"),
+];
+
 #[test]
 fn options_are_checked() {
-    let cases: [(&[&str], &str); 14] = [
-        (&[], "a command is missing"),
-        (&["reed", "int"], "no command `reed`"),
-        (&["read"], "a TEXT or --file ROW is missing"),
-        (&["read", "int", "long"], "`long` is one word too many"),
-        (&["read", "--lang", "c", "int"], "no option --lang"),
-        (
-            &["read", "--language", "pascal", "int"],
-            "no language `pascal`",
-        ),
-        (
-            &["read", "--standard", "c++18", "int"],
-            "no standard `c++18`",
-        ),
-        (
-            &["read", "--language", "c", "--standard", "f77", "int"],
-            "f77 is no standard of C",
-        ),
-        (&["read", "int", "--allowance"], "--allowance needs a value"),
-        (
-            &["read", "int", "--allowance", "-1"],
-            "--allowance needs a whole number",
-        ),
-        (
-            &["read", "--json", "--json", "int"],
-            "--json is given twice",
-        ),
-        (
-            &["read", "--json", "--listing", "int"],
-            "exclude each other",
-        ),
-        (&["read", "--file", "lane.row", "int"], "one of TEXT"),
-        (
-            &["read", "--file", "lane.row", "--language", "c"],
-            "the row file says what --language would",
-        ),
-    ];
-    for (words, expected) in cases {
+    for (words, expected) in WRONG {
         let said = wrong(words);
         assert!(said.contains(expected), "{words:?}: {said}");
     }
