@@ -1,5 +1,5 @@
-//! The rows that document 01 (the scope paper) works out, with every number it gives. The expected answers are its own, none comes
-//! from a run of this reader.
+//! The rows that document 01 (the scope paper) works out, with every number it gives. The expected answers are its own, none
+//! comes from a run of this reader.
 
 mod support;
 
