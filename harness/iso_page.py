@@ -201,7 +201,7 @@ def search_text():
     total = [0, 0, 0]
     for line in lines:
         if line[0] == 'search':
-            _, name, letters, around, longest, rows, seen, places, differ, entries = line
+            _, name, letters, around, longest, rows, seen, places, differ, _, entries = line
             between = f', `{around}`' if around else ''
             out.append(f'| {name} | {code(letters)}{between} | {longest} | {int(rows):,} | {int(seen):,} | {places} | {int(differ):,} | {entries} |')
             total = [total[0] + int(rows), total[1] + int(seen), total[2] + int(differ)]

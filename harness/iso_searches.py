@@ -7,11 +7,11 @@ are declared so that each kind of name has one.
 import iso_rows
 
 PREAMBLE = {
-    'c': 'typedef int A; struct A { int m; }; union U { int m; }; enum E { a = 3 }; struct A *s; int f(int);',
+    'c': 'typedef int A; struct A { int m; }; union U { int m; }; enum E { a = 3 }; struct A *s; extern int *q; int f(int);',
     'cpp98': '''template<class> struct Use;
 struct B { int m; }; struct A { struct B { int m; }; static const int a = 3; int m; template<class> struct T { int m; }; template<int> struct N { int m; }; };
 template<class, class = int> struct T { struct B { int m; }; static const int a = 3; }; template<int, int = 1> struct N { struct B { int m; }; static const int a = 3; };
-const int a = 3; extern A s; int g(int); template<class> int f(int); template<int> int f(int); extern int A::*p;
+const int a = 3; extern A s; int g(int); typedef int I; template<class> int f(int); template<int> int f(int); extern int A::*p;
 template<class> void any(); template<int> void any(); template<class, class> void any(); template<class, int> void any(); template<int, class> void any();
 template<int, int> void any(); template<class, class, class> void any(); template<class, class, int> void any(); template<class, int, class> void any();
 template<class, int, int> void any(); template<int, class, class> void any(); template<int, class, int> void any(); template<int, int, class> void any();
@@ -19,13 +19,12 @@ template<int, int, int> void any(); template<int *> void any(); template<const i
     'cpp': '''template<class> struct Use;
 struct B { int m; }; struct A { struct B { int m; }; static const int a = 3; int m; template<class> struct T { int m; }; template<int> struct N { int m; }; };
 template<class...> struct T { struct B { int m; }; static const int a = 3; }; template<int...> struct N { struct B { int m; }; static const int a = 3; };
-const int a = 3; extern A s; int g(int); template<class> int f(int); template<int> int f(int); extern int A::*p;
+const int a = 3; extern A s; int g(int); typedef int I; template<class> int f(int); template<int> int f(int); extern int A::*p;
 template<class> void any(); template<int> void any(); template<class, class> void any(); template<class, int> void any(); template<int, class> void any();
 template<int, int> void any(); template<class, class, class> void any(); template<class, class, int> void any(); template<class, int, class> void any();
 template<class, int, int> void any(); template<int, class, class> void any(); template<int, class, int> void any(); template<int, int, class> void any();
 template<int, int, int> void any(); template<int *> void any(); template<const int *> void any(); template<int A::*> void any(); template<template<class...> class> void any();''',
     'cpp14': '\ntemplate<int> constexpr int V = 3;',
-    'cpp17': '\ntemplate<double> void any();',
     'fortran': '''module m
 implicit none
 integer, parameter :: a = 4, b = 8, v(2) = (/ 4, 8 /)
@@ -56,6 +55,7 @@ type(lane), parameter :: t = lane(4)''',
 def preamble(language, standard):
     if language == 'cpp':
         text = PREAMBLE['cpp98' if standard == 0 else 'cpp'] + (PREAMBLE['cpp14'] if standard >= 2 else '')
+        text += '\nint k(int = 0, int = 0);' if standard == 0 else '\nconstexpr int k(int = 0, int = 0) { return 3; }'
         return text + ('\ntemplate<double> void any();' if standard >= 4 else '')
     if language == 'fortran':
         return PREAMBLE['fortran95' if standard <= 2 else 'fortran']
@@ -71,7 +71,7 @@ UNITS = {
     'cpp-alias': '{ using U = TYPE; }',
     'cpp-parameter': '{ void p(TYPE); }',
     'cpp-cast': '{ (void) (TYPE) 0; }',
-    'cpp-argument': '{ any< TYPE >(); }',
+    'cpp-argument': '{ (any< TYPE >)(); }',
     'fortran-dummy': 'TYPE :: x',
     'fortran-allocatable': 'TYPE, allocatable :: x',
     'fortran-allocate': 'class(*), allocatable :: x\nallocate(TYPE :: x)',
@@ -89,25 +89,25 @@ class Search:
 MEANT = {'c': 3, 'cpp': 3, 'fortran': 5}
 INNER = {'cpp-argument'}  # is given the letters alone
 SEARCHES = [
-    Search('C, whole rows', 'c', 'int long void const struct A a static * , 3 ... ( ) [ ]', 5, ['c-name', 'c-parameter', 'c-cast']),
-    Search('C, specifiers', 'c', 'int long unsigned double _Complex _Bool const restrict __restrict _Atomic register struct enum A a void noexcept class * ( )', 4,
+    Search('C, whole rows', 'c', 'int long void const struct A a q static * , 3 ... ( ) [ ]', 5, ['c-name', 'c-parameter', 'c-cast']),
+    Search('C, specifiers', 'c', 'int long unsigned double _Complex const restrict __restrict _Atomic register struct A void noexcept class * ( )', 4,
            ['c-name', 'c-parameter']),
-    Search('C, array bounds', 'c', 'a A s int sizeof static const * + = , . ++ ? : 3 "s" ( ) [ ]', 4, ['c-name', 'c-parameter'], 'int [', ']'),
+    Search('C, array bounds', 'c', 'a q A int sizeof static const * + = , ++ ? : 3 "s" ( ) [ ]', 4, ['c-name', 'c-parameter'], 'int [', ']'),
     Search('C, parameters', 'c', 'int void A a const register * , ... ( ) [ ]', 5, ['c-name'], 'int (', ')'),
     Search('C, typeof', 'c', 'a A s int const struct sizeof * + , . 3 ( ) [ ]', 4, ['c-name'], 'typeof (', ')', [4], ('typeof', '__typeof__')),
     Search('C, _Atomic', 'c', 'A a int const void struct _Atomic * , 3 ( ) [ ]', 4, ['c-name'], '_Atomic (', ')', [2, 3, 4]),
     Search('C++, whole rows', 'cpp', 'int const A B a T N :: * & < > >> , ( ) [ ]', 5, ['cpp-type-id', 'cpp-parameter', 'cpp-cast']),
-    Search('C++, more words', 'cpp', 'int void const A B a T :: * & && < > 3 ... typename struct noexcept auto decltype throw register template restrict ( ) [ ]', 4,
+    Search('C++, more words', 'cpp', 'int void const A B :: * & && 3 ... typename struct noexcept auto throw register restrict ( ) [ ]', 4,
            ['cpp-type-id', 'cpp-parameter', 'cpp-alias']),
-    Search('C++, arguments', 'cpp', 'int A a T s f :: * & < > , = + . 3 1.5 "s" sizeof typename ... ( ) [ ]', 4, ['cpp-argument'], 'A <', '>'),
-    Search('C++, angles', 'cpp', 'A a T V < > >> , 3 ( ) [ ]', 5, ['cpp-argument'], 'A <', '>'),
-    Search('C++, array bounds', 'cpp', 'a A s V T int sizeof * + = , < > >> 3 "s" ( ) [ ]', 4, ['cpp-type-id'], 'int [', ']'),
-    Search('C++, parameters', 'cpp', 'int void A B a :: * & , const ... ( ) [ ]', 5, ['cpp-type-id'], 'int (', ')'),
-    Search('C++, decltype', 'cpp', 'a A s p f g int sizeof new operator :: * + , . -> < > 3 ( ) [ ]', 4, ['cpp-type-id'], 'decltype (', ')', [1, 2, 3, 4, 5]),
+    Search('C++, arguments', 'cpp', 'int A I a T N k :: * & < > , = + 3 "s" sizeof ... ( ) [ ]', 4, ['cpp-argument'], 'A <', '>'),
+    Search('C++, angles', 'cpp', 'I a T N V k < > >> , 3 ( ) [ ]', 5, ['cpp-argument'], 'A <', '>'),
+    Search('C++, array bounds', 'cpp', 'a A V int sizeof * + = , < > >> 3 "s" ( ) [ ]', 4, ['cpp-type-id'], 'int [', ']'),
+    Search('C++, parameters', 'cpp', 'int void A B :: * & , ... ( ) [ ]', 5, ['cpp-type-id'], 'int (', ')'),
+    Search('C++, decltype', 'cpp', 'a A s p g int sizeof new :: * + . < > 3 ( ) [ ]', 4, ['cpp-type-id'], 'decltype (', ')', [1, 2, 3, 4, 5]),
     Search('Fortran, whole rows', 'fortran', 'integer character type class double precision lane a * : , 4 ( ) [ ]', 5,
            ['fortran-dummy', 'fortran-allocatable', 'fortran-allocate']),
-    Search('Fortran, kinds', 'fortran', "a t v w lane kind len int = * : , + % 4 1.5 's' .true. ( ) [ ]", 4, ['fortran-dummy'], 'integer (', ')'),
-    Search('Fortran, lengths', 'fortran', "a v w lane kind len = * : , + ++ % 4 1.5 's' ( ) [ ]", 4, ['fortran-dummy', 'fortran-allocatable'], 'character (', ')'),
+    Search('Fortran, kinds', 'fortran', "a t v lane kind len int = * : , + % 4 1.5 's' ( ) [ ]", 4, ['fortran-dummy'], 'integer (', ')'),
+    Search('Fortran, lengths', 'fortran', "a v w kind len = * : , + ++ 4 1.5 's' ( ) [ ]", 4, ['fortran-dummy', 'fortran-allocatable'], 'character (', ')'),
     Search('Fortran, types', 'fortran', 'a lane bag tray integer double precision character real n len = * : , 4 ( )', 4,
            ['fortran-dummy', 'fortran-allocatable', 'fortran-allocate'], 'type (', ')'),
     Search('Fortran, after a star', 'fortran', 'a v 4 kind * : , + = ( )', 4, ['fortran-dummy'], 'character *', ''),
@@ -118,7 +118,8 @@ SEARCHES = [
 KNOWN = set('''void bool _Bool char wchar_t char8_t char16_t char32_t short int long signed unsigned float double _Complex _Imaginary _Decimal32 _Decimal64
 _Decimal128 const volatile restrict _Atomic noexcept transaction_safe __restrict __restrict__ struct union enum class typename decltype typeof typeof_unqual __typeof
 __typeof__ _BitInt'''.split())
-KNOWN_FORTRAN = set('type class double precision complex'.split())
+# in Fortran also the intrinsic types and the keywords of selectors, which are not the program's names
+KNOWN_FORTRAN = set('type class double precision complex integer real character kind len'.split())
 
 
 def seen(language, letter):

@@ -42,7 +42,22 @@ another place, that is said beside it (`harness/iso --units ID` prints the units
 ISO, the entry says why.
 """
 SEARCH_TEXT = """
-SEARCHTEXT
+All rows over an alphabet, up to a length, whose brackets pair, were given to the reader in every standard and to compilers (clang 22.1.8 and gcc 12.2.0 in C and C++,
+gfortran 12.2.0); where nothing stands before them, those that begin with a word or `::`, as every type name does. `...` is one letter and three tokens. To the
+reader all words that it does not know are one, so the rows are fewer to it; ISO is taken to accept such a row if a compiler accepts one of the rows that are the same to the
+reader. For that the alphabets have names of each kind: in C `A` is a type and a tag, `a` a constant; in C++ `A` and `B` are classes, `I` an arithmetic type,
+`T` and `N` templates over types and over integers, `V` a variable template, `a` a constant, `s` an object, `p` a pointer to member, `g` a function, `k` a
+constant function; in Fortran `lane`, `bag` and `tray` are derived types (without, with a length and with a kind parameter), `a` is a constant, `v` a constant array, `w` a
+string, `t` a structure (`harness/iso_searches.py`).
+
+clang and gfortran were asked about all rows in the first standard that they have, in the one that 255 means and in the last; in the standards between, and gcc in all
+of them, about the rows that the reader or a compiler accepts. The first place named is that of a type name (an argument list between `A <` and `>`); the other places, in which ISO may accept more, got
+the rows of up to four letters in the standard that 255 means. One error can hide another, or make one, so rows without an error were compiled again without the others until
+none was left, and in the standard that 255 means rows with one a second time, in the other order. Fortran rows that begin with `type` and no parenthesis were
+not given to the compiler, where they would begin a definition; the reader refuses them all.
+
+A row differs in a standard if the reader accepts it and a compiler does not, or the reader refuses it and a compiler accepts it; "Differ" counts rows to the reader, once for each
+standard. `harness/iso_rules.py` names an entry for each difference: none is left without one. `harness/iso_search` runs all this again.
 """
 LETTERS = [
     ('W', 'builtin type words'), ('Q', 'qualifiers'), ('N', 'names'), ('P', '`typeof`, `decltype`, `_BitInt`, and words that the profile check looks for'),
@@ -157,7 +172,7 @@ entry('W7', 'refuse', 'A builtin word that the language has not reserved, as a t
 entry('W8', 'refuse', 'Interchange and extended floating types with `_Complex`.',
       '`_Float64` is a name like any other, and no name stands beside a builtin word.', 'C23 Annex H (optional) has `_Float64 _Complex` and its like.',
       [c('_Float64 _Complex', 'C23+'), c('_Complex _Float32x *', 'C23+')],
-      'gcc accepts them in every standard from C99 on with a remark under `-pedantic` only before C23; clang has none of these types.', 'a typedef')
+      'gcc has the types and rejects them under `-pedantic-errors`; clang has none of them.', 'a typedef')
 
 # ---------------------------------------------------------------------------------------------------------------------
 group('C and C++: qualifiers')
@@ -199,7 +214,7 @@ entry('Q10', 'accept', '`__restrict` and `__restrict__` in C.',
 entry('Q11', 'accept', '`_Atomic( )` after the declarator began.',
       'There `_Atomic` is a qualifier, and a type name in parentheses may follow it.', '`_Atomic` before a parenthesis is always a type specifier (C17 6.7.2.4 p4), which stands before the declarator.',
       [c('A * _Atomic (A)'), c('struct Tray * _Atomic (Lane)')],
-      'all read a qualifier and a parameter list.')
+      'all read it as a qualifier and a parameter list.')
 entry('Q12', 'refuse', 'A qualifier word that is an ordinary name, as the type.',
       'The set of qualifiers does not depend on language or standard, and a qualifier names no type.',
       '`restrict` is an ordinary identifier in C89 and C++, `noexcept` in C and C++98, `transaction_safe` everywhere (C17 6.4.1; [lex.key]).',
@@ -236,7 +251,7 @@ entry('N7', 'refuse', '`template` before a name.',
       [cpp('A::template B<c>', 'C++11+', pre=USE + 'struct A { template<int> struct B {}; }; const int c = 4;'),
        cpp('decltype(s.template f<c>())', 'C++11+', pre=USE + 'struct S { template<int> int f(); }; extern S s; const int c = 4;', only='C++11+'),
        cpp('post::Sorter::template Lane<Tray> *', 'C++11+', pre=USE + 'struct Tray; namespace post { struct Sorter { template<class> struct Lane {}; }; }')],
-      'g++ accepts `template` outside a template in C++98 too, where C++98 14.2 does not allow it.', 'the name without `template`, or an alias')
+      None, 'the name without `template`, or an alias')
 entry('N8', 'refuse', "C++'s words as names in C.",
       '`class`, `typename` and `decltype` before parentheses are refused in C.', 'these are ordinary identifiers in C (C17 6.4.1).',
       [c('class', 'yes', pre='typedef int class;'), c('typename', 'yes', pre='typedef int typename;'), c('decltype (int)', 'yes', pre='typedef int decltype;'), c('struct class *', 'yes', pre='struct class { int lane; };')],
@@ -248,7 +263,7 @@ entry('N9', 'refuse', 'A definition in the type name, and every other use of bra
 entry('N10', 'refuse', 'Attributes.',
       '`[[` is read as an array bound that holds an array bound.', 'an attribute-specifier-sequence may follow specifiers and declarators (C23 6.7.13, Attributes; [dcl.attr.grammar]).',
       [c('int [[]]', 'C23+'), cpp('int [[]]', 'C++11+'), c('int *[[post::sorted]]', 'C23+'), cpp('Tray *[[post::sorted]]', 'C++11+')],
-      'an attribute they do not know is warned of and ignored; clang takes the empty one in older standards with a remark.', 'the type name without it')
+      'an attribute they do not know is warned of and ignored.', 'the type name without it')
 entry('N11', 'accept', '`auto` and `decltype(auto)` where no placeholder may stand.',
       '`auto` is a name, and an operand of `decltype`.', 'a placeholder type stands in the places listed ([dcl.spec.auto]); a type argument is none of them.',
       [cpp('auto'), cpp('decltype(auto)'), cpp('Lane<auto *>')])
@@ -322,7 +337,7 @@ entry('D8', 'refuse', 'Parameters inside the parentheses of a declarator.',
 entry('D9', 'refuse', 'Exception specifications with `throw`.',
       '`throw` is no qualifier.', 'C++98 15.4: an exception-specification may follow parameters, in a parameter or a declaration and in no type argument; C++17 removed it but for `throw()`, C++20 that too.',
       [cpp('void () throw()', 'C++17-', unit='cpp-parameter'), cpp('void (*)() throw()', 'C++17-', unit='cpp-parameter'), cpp('Route (*)(Tray) throw(Key)', 'C++14-', unit='cpp-parameter')],
-      'clang++ takes `throw()` in C++20 and later.', 'the type name without it')
+      'all take `throw()` in C++20 and later.', 'the type name without it')
 entry('D10', 'refuse', 'A return type after the parameters.',
       '`->` is no part of a type name (as a template argument such a row passes as an expression).', 'trailing-return-type since C++11 ([dcl.fct]).',
       [cpp('auto () -> int', 'C++11+'), cpp('auto (Tray) -> Route', 'C++11+')], None, '`int ()`')
@@ -337,6 +352,9 @@ entry('D12', 'accept', '`*`, `&` or a declarator in parentheses after brackets o
 entry('D13', 'accept', 'A template argument list after a qualifier.',
       'A list may follow any word, before and after the declarator began.', 'a list follows a template-name ([temp.names]).',
       [cpp('A const<int>'), cpp('int *const<a>'), cpp('Lane<Tray *const<lanes>>')])
+entry('D14', 'refuse', 'A ref-qualifier after the parameters of a function that returns a reference.',
+      'A second `&` is refused in a chain of operators, and the ref-qualifier counts as one.', 'the function type has its own ref-qualifier, since C++11 ([dcl.fct]).',
+      [cpp('int & () &', 'C++11+'), cpp('Lane<Tray & (Key) const &>', 'C++11+')], None, 'an alias for the returned reference')
 
 # ---------------------------------------------------------------------------------------------------------------------
 group('C and C++: parameters')
@@ -410,7 +428,7 @@ entry('A10', 'refuse', '`<=>`.',
       [cpp('decltype(b <=> c)', 'C++20+', pre='#include <compare>\n' + USE + 'const int b = 3, c = 4;', only='C++20+'),
        cpp('N<(b <=> c) == 0>', 'C++20+', pre='#include <compare>\n' + USE + 'template<int> struct N {}; const int b = 3, c = 4;', only='C++20+'),
        cpp('Lane<decltype(keys <=> lanes)>', 'C++20+', pre='#include <compare>\n' + USE + 'template<class> struct Lane {}; const int keys = 16, lanes = 8;', only='C++20+')],
-      'clang++ 14 lacks what the header of this library needs.', 'a named constant or an alias')
+      None, 'a named constant or an alias')
 entry('A11', 'accept', 'An assignment as an argument, a string literal as an argument.',
       'An argument is any expression the reader knows.',
       'an argument is a constant-expression, which is no assignment ([temp.names], [expr.const]); a string literal is none before C++20, and since then only of a parameter of class type ([temp.arg.nontype]).',
@@ -485,7 +503,7 @@ entry('E14', 'refuse', 'Some forms of literals.',
       'The lexer refuses several characters between quotes, hexadecimal floating literals and the suffix `wb`, and makes a word and a string of a raw string.',
       'multi-character constants (C17 6.4.4.4 p10), hexadecimal floating constants (C17 6.4.4.2, since C99; [lex.fcon] since C++17), `wb` since C23 (6.4.4.1, Integer constants), raw strings since C++11 ([lex.string]).',
       [c("int ['ab']", 'yes', unit='c-sizeof'), cpp('N<int(0x1p3)>', 'C++17+'), cpp('char [sizeof(R"(a)")]', 'C++11+'), c('struct Tray [8wb]', 'C23+', unit='c-sizeof')],
-      'gcc 12 and clang 14 do not have `wb`; g++ takes hexadecimal floating literals before C++17 without a word.', 'another form of the literal')
+      'gcc 12 and clang 14 do not have `wb`.', 'another form of the literal')
 entry('E15', 'accept', 'A bound that is no integer.',
       'A literal of any kind is an operand.', 'an array bound has integer type (C17 6.7.6.2 p1; [dcl.array]).',
       [c('int [1.5]', unit='c-sizeof'), c('int ["a"]', unit='c-sizeof'), cpp('Lane<Tray ["north"]>')])
@@ -505,7 +523,7 @@ entry('E19', 'refuse', 'Identifiers beyond ASCII.',
       [c('Gr\u00f6\u00dfe', 'C99+', pre='typedef int Gr\u00f6\u00dfe;', only='C99+'), cpp('post::Gr\u00f6\u00dfe', 'C++11+', pre=USE + 'namespace post { struct Gr\u00f6\u00dfe {}; }', only='C++11+')], None, 'the name spelled in ASCII')
 entry('E20', 'accept', '`<::` in C++98.',
       'The lexer makes `<` and `::` of it.', '`<:` is `[` in C++98 (2.5); C++11 made an exception for `<::` ([lex.pptoken]).',
-      [cpp('T<::A>', 'C++11+'), cpp('Lane<::Tray *>', 'C++11+')], 'gcc and clang warn and read it as C++11 does unless pedantic.')
+      [cpp('T<::A>', 'C++11+'), cpp('Lane<::Tray *>', 'C++11+')])
 
 # ---------------------------------------------------------------------------------------------------------------------
 group('C and C++: what an earlier standard lacks and nothing here tests')
@@ -531,7 +549,10 @@ entry('O6', 'accept', 'C++11 and C++14: `noexcept` in a type argument.',
       'all accept it from C++11 on.')
 entry('O7', 'accept', 'Before C++20: a floating argument.',
       'A literal of any kind is an argument.', 'floating non-type arguments came with C++20 ([temp.param]).',
-      [cpp('N<3.5>', 'C++20+', pre=USE + 'template<double> struct N {};', only='C++17-'), cpp('Slots<0.5>', 'C++20+', pre=USE + 'template<double> struct Slots {};', only='C++17-')])
+      [cpp('N<3.5>', 'C++20+', pre=USE + 'template<double> struct N {};', only='C++17-'), cpp('Slots<0.5>', 'C++20+', pre=USE + 'template<double> struct Slots {};', only='C++17-')])entry('O8', 'accept', 'C++98: a call or a comma where a constant is asked for.',
+      'Whether an expression is constant is not looked at.', 'C++98 5.19: no function calls and no comma operators in a constant expression, whatever the names mean; `constexpr` came with C++11.',
+      [cpp('N<(3, 4)>', 'C++11+'), cpp('N<k()>', 'C++11+', pre=USE + 'template<int> struct N {}; int k();', only='C++98-'), cpp('int [k(3)]', 'C++11+', pre=USE + 'int k(int);', only='C++98-')])
+
 # ---------------------------------------------------------------------------------------------------------------------
 group('All languages: limits')
 
@@ -618,7 +639,7 @@ entry('R14', 'refuse', 'Array constructors.',
       [f('integer(sum([4]))', 'Fortran 2003+'), f('integer(size((/ 1, 2 /))*2)', 'Fortran 90+'), f('character(len=sum([lanes, 8]))', 'Fortran 2003+')], None, 'a named constant')
 entry('R15', 'refuse', 'Binary, octal and hexadecimal constants.',
       'The lexer makes a word and a string of `z"ff"`.', 'boz-literal-constant (R764), as an argument of `INT` and its like since Fortran 2003.',
-      [f('integer(int(z"4"))', 'Fortran 2003+'), f("character(len=int(b'1000'))", 'Fortran 2003+')], 'gfortran takes them in Fortran 95 too.', 'the number in decimal')
+      [f('integer(int(z"4"))', 'Fortran 2003+'), f("character(len=int(b'1000'))", 'Fortran 2003+')], None, 'the number in decimal')
 entry('R16', 'refuse', 'Conditional expressions of Fortran 2023.',
       'The lexer has no `?` in Fortran.', 'conditional-expr, new in Fortran 2023 (10.1.2.3).',
       [f('integer((a > 4 ? 8 : 4))', 'Fortran 2023+'), f('character(len=(lanes > 4 ? lanes : 4))', 'Fortran 2023+')],
