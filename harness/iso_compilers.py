@@ -17,8 +17,8 @@ COMPILERS = {
 OPTIONS = {
     'gcc': ['-fmax-errors=0', '-fno-diagnostics-show-caret'], 'g++': ['-fmax-errors=0', '-fno-diagnostics-show-caret'],
     # two warnings of clang 22 that -pedantic-errors makes errors, of what the standards allow: `()` in C, `a < b > c`
-    'clang': ['-ferror-limit=0', '-fno-caret-diagnostics', '-Wno-strict-prototypes', '-Wno-parentheses'],
-    'clang++': ['-ferror-limit=0', '-fno-caret-diagnostics', '-Wno-parentheses'],
+    'clang': ['-ferror-limit=0', '-fno-caret-diagnostics', '-fno-crash-diagnostics', '-Wno-strict-prototypes', '-Wno-parentheses'],
+    'clang++': ['-ferror-limit=0', '-fno-caret-diagnostics', '-fno-crash-diagnostics', '-Wno-parentheses'],
     'gfortran': ['-fmax-errors=0', '-fno-diagnostics-show-caret'],
 }
 SUFFIX = {'c': '.c', 'cpp': '.cpp', 'fortran': '.f90'}

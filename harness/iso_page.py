@@ -175,11 +175,10 @@ def refused_text():
     for entry, language, _, _, closed, total in tsv('corpus/shares.tsv'):
         shares[entry] += 100 * int(closed) / int(total)
     out = ['## Valid names that are refused', '', iso_table.REFUSED_TEXT.strip(), '', '| Share | Refused | Write instead | Entry |', '|---|---|---|---|']
-    lines = sorted(iso_table.REFUSED, key=lambda line: -shares[line[0]])
-    for entry, text, instead in lines:
+    for entry, language, what, row, instead, other in sorted(iso_table.REFUSED, key=lambda line: -shares[line[0]]):
         share = shares[entry]
-        language = LANGUAGE[[line[1] for line in tsv('corpus/shares.tsv') if line[0] == entry][0]] if share else ''
-        out.append(f'| {f"{share:.1f}% of {language}" if share >= 0.05 else f"{share:.2f}% of {language}" if share else "not in the corpus"} | {text} | {instead} | {entry} |')
+        told = f'{share:.1f}%' if share >= 0.05 else f'{share:.2f}%'
+        out.append(f'| {f"{told} of {LANGUAGE[language]}" if share else "not in the corpus"} | {what}: {code(row)} | {instead}: {code(other)} | {entry} |')
     return '\n'.join(out) + '\n'
 
 

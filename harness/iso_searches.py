@@ -7,7 +7,7 @@ are declared so that each kind of name has one.
 import iso_rows
 
 PREAMBLE = {
-    'c': 'typedef int A; struct A { int m; }; union U { int m; }; enum E { a = 3 }; struct A *s; extern int *q; int f(int);',
+    'c': 'typedef int A; struct A { int a; }; enum E { a = 3 }; extern struct A s; extern int *q, i; int f();',
     'cpp98': '''template<class> struct Use;
 struct B { int m; }; struct A { struct B { int m; }; static const int a = 3; int m; template<class> struct T { int m; }; template<int> struct N { int m; }; };
 template<class, class = int> struct T { struct B { int m; }; static const int a = 3; }; template<int, int = 1> struct N { struct B { int m; }; static const int a = 3; };
@@ -64,12 +64,12 @@ def preamble(language, standard):
 
 UNITS = {
     'c-name': '{ (void) __builtin_types_compatible_p(TYPE, int); }',
-    'c-parameter': '{ void p(TYPE); }',
+    'c-parameter': '{ typedef void p(TYPE); }',
     'c-cast': '{ (void) (TYPE) 0; }',
     'c-sizeof': '{ (void) sizeof(TYPE); }',
     'cpp-type-id': '{ Use< TYPE > *use; }',
     'cpp-alias': '{ using U = TYPE; }',
-    'cpp-parameter': '{ void p(TYPE); }',
+    'cpp-parameter': '{ typedef void p(TYPE); }',
     'cpp-cast': '{ (void) (TYPE) 0; }',
     'cpp-argument': '{ (any< TYPE >)(); }',
     'fortran-dummy': 'TYPE :: x',
@@ -90,11 +90,11 @@ MEANT = {'c': 3, 'cpp': 3, 'fortran': 5}
 INNER = {'cpp-argument'}  # is given the letters alone
 SEARCHES = [
     Search('C, whole rows', 'c', 'int long void const struct A a q static * , 3 ... ( ) [ ]', 5, ['c-name', 'c-parameter', 'c-cast']),
-    Search('C, specifiers', 'c', 'int long unsigned double _Complex const restrict __restrict _Atomic register struct A void noexcept class * ( )', 4,
+    Search('C, specifiers', 'c', 'int long unsigned double const restrict __restrict _Atomic register struct A void noexcept class * ( )', 4,
            ['c-name', 'c-parameter']),
-    Search('C, array bounds', 'c', 'a q A int sizeof static const * + = , ++ ? : 3 "s" ( ) [ ]', 4, ['c-name', 'c-parameter'], 'int [', ']'),
+    Search('C, array bounds', 'c', 'a q i f A int sizeof static const * + = , ++ 3 "s" ( ) [ ]', 4, ['c-name', 'c-parameter'], 'int [', ']'),
     Search('C, parameters', 'c', 'int void A a const register * , ... ( ) [ ]', 5, ['c-name'], 'int (', ')'),
-    Search('C, typeof', 'c', 'a A s int const struct sizeof * + , . 3 ( ) [ ]', 4, ['c-name'], 'typeof (', ')', [4], ('typeof', '__typeof__')),
+    Search('C, typeof', 'c', 'a q f A s int const struct sizeof * + , . 3 ( ) [ ]', 4, ['c-name'], 'typeof (', ')', [4], ('typeof', '__typeof__')),
     Search('C, _Atomic', 'c', 'A a int const void struct _Atomic * , 3 ( ) [ ]', 4, ['c-name'], '_Atomic (', ')', [2, 3, 4]),
     Search('C++, whole rows', 'cpp', 'int const A B a T N :: * & < > >> , ( ) [ ]', 5, ['cpp-type-id', 'cpp-parameter', 'cpp-cast']),
     Search('C++, more words', 'cpp', 'int void const A B :: * & && 3 ... typename struct noexcept auto throw register restrict ( ) [ ]', 4,
@@ -114,10 +114,12 @@ SEARCHES = [
 ]
 
 
-# the words that the reader compares with something; every other is to it a word like any other
+# the words that the reader compares with something; every other is to it a word like any other,
 KNOWN = set('''void bool _Bool char wchar_t char8_t char16_t char32_t short int long signed unsigned float double _Complex _Imaginary _Decimal32 _Decimal64
 _Decimal128 const volatile restrict _Atomic noexcept transaction_safe __restrict __restrict__ struct union enum class typename decltype typeof typeof_unqual __typeof
 __typeof__ _BitInt'''.split())
+# and the keywords of the alphabets, which are not the program's names
+KNOWN |= set('sizeof static register new throw operator template auto'.split())
 # in Fortran also the intrinsic types and the keywords of selectors, which are not the program's names
 KNOWN_FORTRAN = set('type class double precision complex integer real character kind len'.split())
 

@@ -8,18 +8,18 @@ REFUSED_TEXT = """
 Names that ISO accepts and the reader refuses, with structure flag 1. Shares are of the language's names in `harness/corpus/names.tsv`, with `>>` for every
 `> >` as C++11 and later write it; each entry says in which standards it holds.
 """
-# entry, what is refused, what to write instead
+# entry, language, what is refused, a row, what to write instead, a row that is accepted (none: no one row stands for it)
 REFUSED = [
-    ('A12', '`>>` closes two lists and a comma follows: `A<B<C<d>>,e>`', '`> >` before the comma: `A<B<C<d> >,e>`'),
-    ('E2', 'a cast in a template argument or a bound: `N<(int)2>`', 'the operand in parentheses: `N<(int)(2)>`'),
-    ('F3', 'parameters with a `::` and a `*` among them: `int (A, B::C *)`; one `B::C *` alone passes', 'an alias for `B::C`, or `using namespace`'),
-    ('D8', 'the type of a function that returns a pointer, with the `*` inside: `int (*(int))`', '`int *(int)`; an alias for a returned function pointer'),
-    ('R6', '`character*(*)`', '`character(*)`'),
-    ('D7', 'a pointer to member without parentheses: `int C::*`', '`int (C::*)`'),
-    ('A3', 'an empty list: `A<>`', 'the default argument written out, or an alias'),
-    ('F1', 'named parameters: `int (int a)`', 'the types alone: `int (int)`'),
-    ('A5', 'a comparison in a template argument: `N<(b<c)>`', 'the other order: `N<(c>b)>`'),
-    ('E3', '`sizeof` of more than one word in a bound: `int [sizeof(struct A)]`', 'an alias: `int [sizeof(A)]`'),
+    ('A12', 'cpp', '`>>` closes two lists and a comma follows', 'A<B<C<d>>,e>', '`> >` before the comma', 'A<B<C<d> >,e>'),
+    ('E2', 'cpp', 'a cast in a template argument or a bound', 'N<(int)2>', 'the operand in parentheses', 'N<(int)(2)>'),
+    ('F3', 'cpp', 'parameters with a `::` and a `*` among them (one `B::C *` alone passes)', 'int (A, B::C *)', 'an alias for the qualified type', 'int (A, C *)'),
+    ('D8', 'c', 'a function that returns a pointer, with the `*` in parentheses; a returned pointer to function', 'int (*(int))', 'the `*` before the parentheses; an alias for a returned pointer to function', 'int *(int)'),
+    ('R6', 'fortran', 'a length in parentheses after `*`', 'character*(*)', 'the length as a selector', 'character(*)'),
+    ('D7', 'cpp', 'a pointer to member without parentheses', 'int C::*', 'parentheses', 'int (C::*)'),
+    ('A3', 'cpp', 'an empty list', 'A<>', 'the default argument written out, or an alias', 'A<int>'),
+    ('F1', 'c', 'named parameters', 'int (int a)', 'the types alone', 'int (int)'),
+    ('A5', 'cpp', 'a comparison with `<` in a template argument', 'N<(b<c)>', 'the other order', 'N<(c>b)>'),
+    ('E3', 'c', '`sizeof` of a type name of several words', 'int [sizeof(struct A)]', 'an alias', 'int [sizeof(A)]'),
 ]
 INDEX_TEXT = """
 Direction: who accepts. A row marked * is the smallest that the search met (below, "The search"): no row over its alphabets with fewer
@@ -195,15 +195,15 @@ entry('Q5', 'accept', '`noexcept` and `transaction_safe` as qualifiers anywhere,
       'Both stand in the set of qualifiers; the parentheses after `noexcept` may be empty.',
       'C has neither; in C++ `noexcept` follows the parameters of a function type, with a constant expression if it has parentheses ([dcl.decl.general], [except.spec]).',
       [c('noexcept int'), cpp('noexcept int'), cpp('int *noexcept'), cpp('int () noexcept()'), cpp('Lane<noexcept Tray *>')])
-entry('Q6', 'accept', 'Qualifiers after a reference, an array or, in C, parameters.',
+entry('Q6', 'accept', 'Qualifiers after a reference, an array or, in C, parameters, or first in a declarator in parentheses.',
       'After the declarator began a qualifier may stand anywhere.',
-      'a reference operator has no cv-qualifier-seq ([dcl.decl.general], ptr-operator); nothing follows an array bound; C has no qualifiers after parameters (C17 6.7.7).',
-      [cpp('int & const'), cpp('int [3] const'), c('int () const'), c('int [] const'), cpp('void (*)(Tray & const)'), c('Lane (Tray *) const')])
+      'qualifiers follow a `*` (C17 6.7.7; [dcl.decl.general], ptr-operator); a reference operator has none, nothing follows an array bound, and C has no qualifiers after parameters.',
+      [c('int ((const *))'), cpp('int & const'), cpp('int [3] const'), c('int () const'), c('int [] const'), cpp('void (*)(Tray & const)'), c('Lane (Tray *) const')])
 entry('Q7', 'accept', 'Qualifiers and `&` after the parameters of a pointer or reference to function, and of a parameter.',
       'As Q6.', 'a cv-qualifier-seq or ref-qualifier is for the function type of a member, of a pointer to member, of a typedef or of a type argument ([dcl.fct]).',
       [cpp('int (*)() const'), cpp('int (*)() &'), cpp('int (int () const)'), cpp('Lane<void (*)(Tray) const>')])
 entry('Q8', 'accept', '`_Atomic( )` of a type that cannot be atomic.',
-      'Any type name may stand inside.', 'no array, function, atomic or qualified type (C17 6.7.2.4 p3), no incomplete one such as `void`.',
+      'Any type name may stand inside.', 'no array, function, atomic or qualified type (C17 6.7.2.4 p3).',
       [c('_Atomic(const A)'), c('_Atomic(int [3])'), c('_Atomic(const Lane) *')])
 entry('Q9', 'refuse', 'C89: qualifiers or a storage class without a type.',
       'Some word must name a type.', 'C89 takes a missing type specifier for `int` (3.5.2 as ANSI numbers it); C99 removed this.',
@@ -549,7 +549,8 @@ entry('O6', 'accept', 'C++11 and C++14: `noexcept` in a type argument.',
       'all accept it from C++11 on.')
 entry('O7', 'accept', 'Before C++20: a floating argument.',
       'A literal of any kind is an argument.', 'floating non-type arguments came with C++20 ([temp.param]).',
-      [cpp('N<3.5>', 'C++20+', pre=USE + 'template<double> struct N {};', only='C++17-'), cpp('Slots<0.5>', 'C++20+', pre=USE + 'template<double> struct Slots {};', only='C++17-')])entry('O8', 'accept', 'C++98: a call or a comma where a constant is asked for.',
+      [cpp('N<3.5>', 'C++20+', pre=USE + 'template<double> struct N {};', only='C++17-'), cpp('Slots<0.5>', 'C++20+', pre=USE + 'template<double> struct Slots {};', only='C++17-')])
+entry('O8', 'accept', 'C++98: a call or a comma where a constant is asked for.',
       'Whether an expression is constant is not looked at.', 'C++98 5.19: no function calls and no comma operators in a constant expression, whatever the names mean; `constexpr` came with C++11.',
       [cpp('N<(3, 4)>', 'C++11+'), cpp('N<k()>', 'C++11+', pre=USE + 'template<int> struct N {}; int k();', only='C++98-'), cpp('int [k(3)]', 'C++11+', pre=USE + 'int k(int);', only='C++98-')])
 
@@ -559,7 +560,7 @@ group('All languages: limits')
 DEEP = 65 * '(' + '*' + 65 * ')'
 entry('L1', 'refuse', 'Brackets nested deeper than 64, more than 1,024 tokens, words of more than 255 bytes.',
       'Refusals 20, 5 and 4.', 'the grammars have no limit. What an implementation must take at least is within ours in C: 63 levels of parenthesised declarators and expressions, 63 characters of a name (C17 5.2.4.1). '
-      'What [implimits] recommends for C++ is above ours: 256 levels of parentheses, 1,024 characters of a name. Fortran: names of 63 characters, statements of 255 lines and more (C601, 6.3.2).',
+      'What [implimits] recommends for C++ is above ours: 256 levels of parenthesised expressions, 1,024 characters of a name. Fortran: names of 63 characters (C601).',
       [c('int ' + DEEP, 'yes'), cpp('Tray ' + DEEP + '(Key)', 'yes'), c('A' * 256, 'yes', pre='typedef int ' + 'A' * 256 + ';')], None, 'an alias for an inner part')
 entry('L2', 'refuse', 'Lists nested deeper than 64.',
       'The 65th `<` becomes a token, and the structure check refuses the row; with flag 0 it is accepted with another tree (A14).', '[implimits] recommends 1,024 nested template instantiations.',
