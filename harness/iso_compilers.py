@@ -19,7 +19,8 @@ OPTIONS = {
     # two warnings of clang 22 that -pedantic-errors makes errors, of what the standards allow: `()` in C, `a < b > c`
     'clang': ['-ferror-limit=0', '-fno-caret-diagnostics', '-fno-crash-diagnostics', '-Wno-strict-prototypes', '-Wno-parentheses'],
     'clang++': ['-ferror-limit=0', '-fno-caret-diagnostics', '-fno-crash-diagnostics', '-Wno-parentheses'],
-    'gfortran': ['-fmax-errors=0', '-fno-diagnostics-show-caret'],
+    # without the last, gfortran stops at the first bracket after a name
+    'gfortran': ['-fmax-errors=0', '-fno-diagnostics-show-caret', '-fcoarray=single'],
 }
 SUFFIX = {'c': '.c', 'cpp': '.cpp', 'fortran': '.f90'}
 
@@ -56,7 +57,7 @@ def accepts(language, program, std, unit):
 
 # ---- many rows in one unit
 
-PER_UNIT = 20000
+PER_UNIT = {'c': 20000, 'cpp': 20000, 'fortran': 1000}
 PER_FUNCTION = 200
 
 
@@ -95,8 +96,8 @@ def accepted(language, program, std, preamble, lines, twice=True):
     """The numbers of the lines that the compiler accepts. An error can hide the next one or make one, so the lines without an error are
     compiled again without the others until the unit has none, and, if asked, those with one a second time, the last first."""
     taken = set()
-    for start in range(0, len(lines), PER_UNIT):
-        part = list(range(start, min(start + PER_UNIT, len(lines))))
+    for start in range(0, len(lines), PER_UNIT[language]):
+        part = list(range(start, min(start + PER_UNIT[language], len(lines))))
         bad, _, outside, said = refused(language, program, std, preamble, [lines[number] for number in part])
         good = [number for place, number in enumerate(part) if place not in bad]
         again = [number for place, number in enumerate(part) if place in bad][::-1]

@@ -4,6 +4,7 @@ import os
 import re
 
 import iso_rows
+import iso_rules
 import iso_table
 from iso_compilers import COMPILERS
 from iso_rows import STANDARDS
@@ -195,16 +196,16 @@ def words_text(record):
 
 def search_text():
     lines = tsv('iso_search.tsv')
-    out = ['### The search', '', iso_table.SEARCH_TEXT.strip(), '',
-           '| Search | Alphabet, between what | Up to | Rows | Rows to the reader | Places | Differ | Entries |', '|---|---|---|---|---|---|---|---|']
-    total = [0, 0, 0]
+    out = ['### The search', '', iso_table.SEARCH_TEXT.strip() + ' ' + '; '.join(why for why, *_ in iso_rules.ASIDES) + '.', '',
+           '| Search | Alphabet, between what | Up to | Rows | Rows to the reader | Places | Differ | Compiler alone | Entries |', '|---|---|---|---|---|---|---|---|---|']
+    total = [0, 0, 0, 0]
     for line in lines:
         if line[0] == 'search':
-            _, name, letters, around, longest, rows, seen, places, differ, _, entries = line
-            between = f', `{around}`' if around else ''
-            out.append(f'| {name} | {code(letters)}{between} | {longest} | {int(rows):,} | {int(seen):,} | {places} | {int(differ):,} | {entries} |')
-            total = [total[0] + int(rows), total[1] + int(seen), total[2] + int(differ)]
-    out.append(f'| All | | | {total[0]:,} | {total[1]:,} | | {total[2]:,} | |')
+            _, name, letters, around, longest, rows, seen, places, differ, alone, entries = line
+            between = f', {code(around)}' if around else ''
+            out.append(f'| {name} | {code(letters)}{between} | {longest} | {int(rows):,} | {int(seen):,} | {places} | {int(differ):,} | {int(alone):,} | {entries} |')
+            total = [old + int(new) for old, new in zip(total, (rows, seen, differ, alone))]
+    out.append(f'| All | | | {total[0]:,} | {total[1]:,} | | {total[2]:,} | {total[3]:,} | |')
     return '\n'.join(out) + '\n'
 
 

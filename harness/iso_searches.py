@@ -9,7 +9,7 @@ import iso_rows
 PREAMBLE = {
     'c': 'typedef int A; struct A { int a; }; enum E { a = 3 }; extern struct A s; extern int *q, i; int f();',
     'cpp98': '''template<class> struct Use;
-struct B { int m; }; struct A { struct B { int m; }; static const int a = 3; int m; template<class> struct T { int m; }; template<int> struct N { int m; }; };
+struct B { int m; }; struct A { struct B { int m; }; static const int a = 3; int m; typedef int I; template<class> struct T { int m; }; template<int> struct N { int m; }; };
 template<class, class = int> struct T { struct B { int m; }; static const int a = 3; }; template<int, int = 1> struct N { struct B { int m; }; static const int a = 3; };
 const int a = 3; extern A s; int g(int); typedef int I; template<class> int f(int); template<int> int f(int); extern int A::*p;
 template<class> void any(); template<int> void any(); template<class, class> void any(); template<class, int> void any(); template<int, class> void any();
@@ -17,7 +17,7 @@ template<int, int> void any(); template<class, class, class> void any(); templat
 template<class, int, int> void any(); template<int, class, class> void any(); template<int, class, int> void any(); template<int, int, class> void any();
 template<int, int, int> void any(); template<int *> void any(); template<const int *> void any(); template<int A::*> void any(); template<template<class, class> class> void any();''',
     'cpp': '''template<class> struct Use;
-struct B { int m; }; struct A { struct B { int m; }; static const int a = 3; int m; template<class> struct T { int m; }; template<int> struct N { int m; }; };
+struct B { int m; }; struct A { struct B { int m; }; static const int a = 3; int m; typedef int I; template<class> struct T { int m; }; template<int> struct N { int m; }; };
 template<class...> struct T { struct B { int m; }; static const int a = 3; }; template<int...> struct N { struct B { int m; }; static const int a = 3; };
 const int a = 3; extern A s; int g(int); typedef int I; template<class> int f(int); template<int> int f(int); extern int A::*p;
 template<class> void any(); template<int> void any(); template<class, class> void any(); template<class, int> void any(); template<int, class> void any();
@@ -55,7 +55,7 @@ type(lane), parameter :: t = lane(4)''',
 def preamble(language, standard):
     if language == 'cpp':
         text = PREAMBLE['cpp98' if standard == 0 else 'cpp'] + (PREAMBLE['cpp14'] if standard >= 2 else '')
-        text += '\nint k(int = 0, int = 0);' if standard == 0 else '\nconstexpr int k(int = 0, int = 0) { return 3; }'
+        text += '\nint k(int = 0, int = 0); const int r[5] = { 3, 3, 3, 3, 3 };' if standard == 0 else '\nconstexpr int k(int = 0, int = 0) { return 3; } constexpr int r[5] = { 3, 3, 3, 3, 3 };'
         return text + ('\ntemplate<double> void any();' if standard >= 4 else '')
     if language == 'fortran':
         return PREAMBLE['fortran95' if standard <= 2 else 'fortran']
@@ -71,6 +71,7 @@ UNITS = {
     'cpp-alias': '{ using U = TYPE; }',
     'cpp-parameter': '{ typedef void p(TYPE); }',
     'cpp-cast': '{ (void) (TYPE) 0; }',
+    'cpp-sizeof': '{ (void) sizeof(TYPE); }',
     'cpp-argument': '{ (any< TYPE >)(); }',
     'fortran-dummy': 'TYPE :: x',
     'fortran-allocatable': 'TYPE, allocatable :: x',
@@ -99,16 +100,16 @@ SEARCHES = [
     Search('C++, whole rows', 'cpp', 'int const A B a T N :: * & < > >> , ( ) [ ]', 5, ['cpp-type-id', 'cpp-parameter', 'cpp-cast']),
     Search('C++, more words', 'cpp', 'int void const A B :: * & && 3 ... typename struct noexcept auto throw register restrict ( ) [ ]', 4,
            ['cpp-type-id', 'cpp-parameter', 'cpp-alias']),
-    Search('C++, arguments', 'cpp', 'int A I a T N k :: * & < > , = + 3 "s" sizeof ... ( ) [ ]', 4, ['cpp-argument'], 'A <', '>'),
+    Search('C++, arguments', 'cpp', 'int A I a T N k :: * & < > , = + 3 sizeof ( )', 4, ['cpp-argument'], 'A <', '>'),
     Search('C++, angles', 'cpp', 'I a T N V k < > >> , 3 ( ) [ ]', 5, ['cpp-argument'], 'A <', '>'),
-    Search('C++, array bounds', 'cpp', 'a A V int sizeof * + = , < > >> 3 "s" ( ) [ ]', 4, ['cpp-type-id'], 'int [', ']'),
-    Search('C++, parameters', 'cpp', 'int void A B :: * & , ... ( ) [ ]', 5, ['cpp-type-id'], 'int (', ')'),
-    Search('C++, decltype', 'cpp', 'a A s p g int sizeof new :: * + . < > 3 ( ) [ ]', 4, ['cpp-type-id'], 'decltype (', ')', [1, 2, 3, 4, 5]),
-    Search('Fortran, whole rows', 'fortran', 'integer character type class double precision lane a * : , 4 ( ) [ ]', 5,
+    Search('C++, array bounds', 'cpp', 'a r k I V int sizeof * + = , < > >> 3 4 ( ) [ ]', 4, ['cpp-sizeof'], 'int [', ']'),
+    Search('C++, parameters', 'cpp', 'int void A B :: * & , const ( ) [ ]', 5, ['cpp-type-id'], 'int (', ')'),
+    Search('C++, decltype', 'cpp', 'a A s g int sizeof new :: * + . 3 ( ) [ ]', 4, ['cpp-type-id'], 'decltype (', ')', [1, 2, 3, 4, 5]),
+    Search('Fortran, whole rows', 'fortran', 'integer character type class double precision lane * : 4 ( )', 5,
            ['fortran-dummy', 'fortran-allocatable', 'fortran-allocate']),
-    Search('Fortran, kinds', 'fortran', "a t v lane kind len int = * : , + % 4 1.5 's' ( ) [ ]", 4, ['fortran-dummy'], 'integer (', ')'),
-    Search('Fortran, lengths', 'fortran', "a v w kind len = * : , + ++ 4 1.5 's' ( ) [ ]", 4, ['fortran-dummy', 'fortran-allocatable'], 'character (', ')'),
-    Search('Fortran, types', 'fortran', 'a lane bag tray integer double precision character real n len = * : , 4 ( )', 4,
+    Search('Fortran, kinds', 'fortran', "a v lane kind len int = * : , + 4 1.5 ( ) [ ]", 4, ['fortran-dummy'], 'integer (', ')'),
+    Search('Fortran, lengths', 'fortran', "a w kind len = * : , + ++ 4 's' ( )", 4, ['fortran-dummy', 'fortran-allocatable'], 'character (', ')'),
+    Search('Fortran, types', 'fortran', 'lane bag tray integer double precision character n = * : , 4 ( )', 4,
            ['fortran-dummy', 'fortran-allocatable', 'fortran-allocate'], 'type (', ')'),
     Search('Fortran, after a star', 'fortran', 'a v 4 kind * : , + = ( )', 4, ['fortran-dummy'], 'character *', ''),
 ]
@@ -130,4 +131,4 @@ def seen(language, letter):
         kind = iso_rows.tokens(language, len(iso_rows.STANDARDS[language]) - 1, letter)[0][0]
         if kind == 0 and letter not in (KNOWN_FORTRAN if language == 'fortran' else KNOWN):
             return 'A'
-    return letter
+    return '3' if letter.isdigit() and language != 'fortran' else letter

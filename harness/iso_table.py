@@ -45,19 +45,20 @@ SEARCH_TEXT = """
 All rows over an alphabet, up to a length, whose brackets pair, were given to the reader in every standard and to compilers (clang 22.1.8 and gcc 12.2.0 in C and C++,
 gfortran 12.2.0); where nothing stands before them, those that begin with a word or `::`, as every type name does. `...` is one letter and three tokens. To the
 reader all words that it does not know are one, so the rows are fewer to it; ISO is taken to accept such a row if a compiler accepts one of the rows that are the same to the
-reader. For that the alphabets have names of each kind: in C `A` is a type and a tag, `a` a constant; in C++ `A` and `B` are classes, `I` an arithmetic type,
-`T` and `N` templates over types and over integers, `V` a variable template, `a` a constant, `s` an object, `p` a pointer to member, `g` a function, `k` a
-constant function; in Fortran `lane`, `bag` and `tray` are derived types (without, with a length and with a kind parameter), `a` is a constant, `v` a constant array, `w` a
-string, `t` a structure (`harness/iso_searches.py`).
+reader. For that the alphabets have names of each kind: in C `A` is a type and a tag, `a` a constant, `q` a pointer, `i` an object, `s` a structure, `f` a function; in C++
+`A` and `B` are classes, `I` is an arithmetic type, `T` and `N` are templates over types and over integers, `V` is a variable template, `a` a constant, `r` a constant array,
+`s` an object, `g` a function, `k` a constant function; in Fortran `lane`, `bag` and `tray` are derived types (without, with a length and with a kind parameter), `a` is a
+constant, `v` a constant array, `w` a string, `int` the function (`harness/iso_searches.py`). Keywords, intrinsic types and `kind` and `len` are no names in this.
 
 clang and gfortran were asked about all rows in the first standard that they have, in the one that 255 means and in the last; in the standards between, and gcc in all
 of them, about the rows that the reader or a compiler accepts. The first place named is that of a type name (an argument list between `A <` and `>`); the other places, in which ISO may accept more, got
 the rows of up to four letters in the standard that 255 means. One error can hide another, or make one, so rows without an error were compiled again without the others until
-none was left, and in the standard that 255 means rows with one a second time, in the other order. Fortran rows that begin with `type` and no parenthesis were
+none was left, and in C and C++, in the standard that 255 means, rows with one a second time, in the other order. Fortran rows that begin with `type` and no parenthesis were
 not given to the compiler, where they would begin a definition; the reader refuses them all.
 
 A row differs in a standard if the reader accepts it and a compiler does not, or the reader refuses it and a compiler accepts it; "Differ" counts rows to the reader, once for each
-standard. `harness/iso_rules.py` names an entry for each difference: none is left without one. `harness/iso_search` runs all this again.
+standard. `harness/iso_rules.py` names an entry for each difference, by what the row has: none is left without one. `harness/iso_search` runs all this again. Rows on which a compiler, and not ISO, stands against
+the reader are counted apart:
 """
 LETTERS = [
     ('W', 'builtin type words'), ('Q', 'qualifiers'), ('N', 'names'), ('P', '`typeof`, `decltype`, `_BitInt`, and words that the profile check looks for'),
@@ -198,7 +199,7 @@ entry('Q5', 'accept', '`noexcept` and `transaction_safe` as qualifiers anywhere,
 entry('Q6', 'accept', 'Qualifiers after a reference, an array or, in C, parameters, or first in a declarator in parentheses.',
       'After the declarator began a qualifier may stand anywhere.',
       'qualifiers follow a `*` (C17 6.7.7; [dcl.decl.general], ptr-operator); a reference operator has none, nothing follows an array bound, and C has no qualifiers after parameters.',
-      [c('int ((const *))'), cpp('int & const'), cpp('int [3] const'), c('int () const'), c('int [] const'), cpp('void (*)(Tray & const)'), c('Lane (Tray *) const')])
+      [c('int ((const *))', 'C89-'), cpp('int & const'), cpp('int [3] const'), c('int () const'), c('int [] const'), cpp('void (*)(Tray & const)'), c('Lane (Tray *) const')])
 entry('Q7', 'accept', 'Qualifiers and `&` after the parameters of a pointer or reference to function, and of a parameter.',
       'As Q6.', 'a cv-qualifier-seq or ref-qualifier is for the function type of a member, of a pointer to member, of a typedef or of a type argument ([dcl.fct]).',
       [cpp('int (*)() const'), cpp('int (*)() &'), cpp('int (int () const)'), cpp('Lane<void (*)(Tray) const>')])
