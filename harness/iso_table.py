@@ -551,9 +551,13 @@ entry('O6', 'accept', 'C++11 and C++14: `noexcept` in a type argument.',
 entry('O7', 'accept', 'Before C++20: a floating argument.',
       'A literal of any kind is an argument.', 'floating non-type arguments came with C++20 ([temp.param]).',
       [cpp('N<3.5>', 'C++20+', pre=USE + 'template<double> struct N {};', only='C++17-'), cpp('Slots<0.5>', 'C++20+', pre=USE + 'template<double> struct Slots {};', only='C++17-')])
-entry('O8', 'accept', 'C++98: a call or a comma where a constant is asked for.',
-      'Whether an expression is constant is not looked at.', 'C++98 5.19: no function calls and no comma operators in a constant expression, whatever the names mean; `constexpr` came with C++11.',
+entry('O8', 'accept', 'C++98: a call, a comma or an element of an array where a constant is asked for.',
+      'Whether an expression is constant is not looked at.', 'C++98 5.19: no function calls, no comma operators and no elements of arrays in a constant expression, whatever the names mean; `constexpr` came with C++11.',
       [cpp('N<(3, 4)>', 'C++11+'), cpp('N<k()>', 'C++11+', pre=USE + 'template<int> struct N {}; int k();', only='C++98-'), cpp('int [k(3)]', 'C++11+', pre=USE + 'int k(int);', only='C++98-')])
+
+entry('O9', 'accept', 'Before C++14: a list as an operand.',
+      'In an expression a list may follow any name.', 'variable templates came with C++14 ([temp.pre]); before, a template-id names a class or a function, which is no operand of a bound.',
+      [cpp('int [B<3>]', 'C++14+', pre=USE + 'template<int> struct B {};', only='C++11-'), cpp('Tray [lanes<8> + 1]', 'C++14+', pre=USE + 'struct Tray {}; template<int> struct lanes {};', only='C++11-')])
 
 # ---------------------------------------------------------------------------------------------------------------------
 group('All languages: limits')
