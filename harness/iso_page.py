@@ -116,8 +116,10 @@ def smallest(entry, table):
     """The smallest row of an entry: the search's, if it met the entry, else the shortest of its rows. And whether the search found it."""
     found = [line for line in tsv('iso_search.tsv') if line[0] == 'entry' and line[1] == entry['id']]
     best = min(table[entry['id']], key=lambda pair: (length(pair[0]['language'], pair[0]['text']), len(pair[0]['text'])))[0]
-    if found and int(found[0][3]) <= length(best['language'], best['text']):
+    if found and int(found[0][3]) < length(best['language'], best['text']):
         return found[0][4], True
+    if found and int(found[0][3]) == length(best['language'], best['text']):
+        return best['text'], True
     return best['text'], False
 
 

@@ -543,9 +543,9 @@ entry('O4', 'accept', 'Before C23: decimal types.',
       [c('_Decimal32', 'C23+'), c('_Decimal64 [lanes]', 'C23+', unit='c-sizeof')], 'clang has no decimal types.')
 entry('O5', 'accept', 'C++98: reference qualifiers, `noexcept`.',
       'The profile check knows `long long`, `decltype` and `&&` (C++11).', 'both came with C++11 ([dcl.fct], [except.spec], [expr.unary.noexcept]).',
-      [cpp('int () &', 'C++11+'), cpp('N<noexcept(3 + 4)>', 'C++11+'), cpp('int () noexcept', 'C++17+'), cpp('Lane<Route (Tray) const &>', 'C++11+')], 'both take `noexcept` in a type argument from C++11 on (O6).')
-entry('O6', 'accept', 'C++11 and C++14: `noexcept` in a type argument.',
-      '`noexcept` may follow parameters anywhere.', 'until C++17 an exception-specification is no part of a type and stands only at the top level of a declaration or on its parameters and result (C++11 15.4 p2).',
+      [cpp('int () &', 'C++11+'), cpp('N<noexcept(3 + 4)>', 'C++11+'), cpp('Lane<Route (Tray) const &>', 'C++11+')])
+entry('O6', 'accept', 'Before C++17: `noexcept` in a type argument.',
+      '`noexcept` may follow parameters anywhere.', 'until C++17 an exception-specification is no part of a type and stands only at the top level of a declaration or on its parameters and result (C++11 15.4 p2); C++98 has no `noexcept`.',
       [cpp('int () noexcept', 'C++17+'), cpp('Lane<Route (Tray) noexcept>', 'C++17+')],
       'all accept it from C++11 on.')
 entry('O7', 'accept', 'Before C++20: a floating argument.',
