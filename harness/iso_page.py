@@ -199,7 +199,7 @@ def words_text(record):
 def search_text():
     lines = tsv('iso_search.tsv')
     out = ['### The search', '', iso_table.SEARCH_TEXT.strip() + ' ' + '; '.join(why for why, *_ in iso_rules.ASIDES) + '.', '',
-           '| Search | Alphabet, between what | Up to | Rows | Rows to the reader | Places | Differ | Compiler alone | Entries |', '|---|---|---|---|---|---|---|---|---|']
+           '| Search | Alphabet, between what | Up to | Rows | Rows to the reader | Places | Differ | Set aside | Entries |', '|---|---|---|---|---|---|---|---|---|']
     total = [0, 0, 0, 0]
     for line in lines:
         if line[0] == 'search':

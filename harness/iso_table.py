@@ -57,8 +57,8 @@ none was left, and in C and C++, in the standard that 255 means, rows with one a
 not given to the compiler, where they would begin a definition; the reader refuses them all.
 
 A row differs in a standard if the reader accepts it and a compiler does not, or the reader refuses it and a compiler accepts it; "Differ" counts rows to the reader, once for each
-standard. `harness/iso_rules.py` names an entry for each difference, by what the row has: none is left without one. `harness/iso_search` runs all this again. Rows on which a compiler, and not ISO, stands against
-the reader are counted apart:
+standard. `harness/iso_rules.py` names an entry for each difference, by what the row has: none is left without one. `harness/iso_search` runs all this again. Counted apart ("Set aside") are rows on which
+one compiler alone stands against the reader, and rows for which the alphabet lacks a name that makes them valid:
 """
 LETTERS = [
     ('W', 'builtin type words'), ('Q', 'qualifiers'), ('N', 'names'), ('P', '`typeof`, `decltype`, `_BitInt`, and words that the profile check looks for'),
