@@ -1,36 +1,29 @@
 -- The numbers of the record file: document 01, "Head record", "Token record" and "Answer record".
 -- Assumes nothing.
 use Prim.Native.Nat.{ℕ, _+_, _*_, _≤_}
-use mathlib.Core.Bool.{_&&_}
-use mathlib.Core.List.{List, [], _∷_}
+use mathlib.Core.Bool.{Bool, not}
 use lib.Dec.{eqb, leb, ltb}
 use Rattle.rows.specs.Notation.{if_then_else_}
+use Rattle.rows.specs.declared.format.SpanWidth.{SpanWidth}
+use Rattle.rows.specs.declared.format.SpanWidth.the-variants.{Four, Eight}
+use Rattle.rows.specs.declared.format.StandIn.{StandIn}
+use Rattle.rows.specs.declared.format.StandIn.the-variants.{Nothing, StandsFor}
+use Rattle.rows.specs.declared.format.Format.{Format}
 use Rattle.rows.specs.declared.head.Meaning.{Meaning}
 use Rattle.rows.specs.declared.head.Meaning.the-variants.{Means, Unknown}
 use Rattle.rows.specs.Languages.{C, Cpp, Fortran, C18, C23, Cpp17, Cpp23, Fortran2018, Fortran2023}
 
--- "A number outside that order counts as the standard it means": the number, and what it means in each language.
-pub record Stand-in : Type 0 where
-  pub number : ℕ
-  pub c : ℕ
-  pub cpp : ℕ
-  pub fortran : ℕ
-
--- The numbers of a file's format that requests of document 02 change.
-pub record Format : Type 0 where
-  pub head-kind : ℕ
-  pub span-bytes : ℕ
-  pub file-limit : ℕ
-  pub greatest-flag : ℕ
-  pub stand-ins : List Stand-in
-
--- "255 means C18, Cpp17 or Fortran2018."
-abbrev pub standard-255 : Stand-in
-standard-255 = record { number = 255; c = C18; cpp = Cpp17; fortran = Fortran2018 }
-
--- Document 01's format.
+-- Document 01's format; `Format` is the code's struct of the numbers that requests of document 02 change. "255 means C18, Cpp17 or Fortran2018."
 abbrev pub format : Format
-format = record { head-kind = 256; span-bytes = 4; file-limit = 65536; greatest-flag = 1; stand-ins = standard-255 ∷ [] }
+format =
+    record {
+      «head_kind» = 256;
+      «span_width» = Four;
+      «file_limit» = 65536;
+      «greatest_flag» = 1;
+      «means_254» = Nothing;
+      «means_255» = StandsFor C18 Cpp17 Fortran2018;
+    }
 
 -- ---- the head record: "length (2 bytes, ..), kind (2 bytes, ..), language (1 byte ..), standard (1 byte, ..), structure flag (1 byte, ..), allowance (4 bytes)"
 
@@ -70,15 +63,28 @@ at-flag = 6
 abbrev pub at-allowance : ℕ
 at-allowance = 7
 
+-- "structure flag (1 byte, 0 or 1)": whether the structure is checked.
+unfoldable pub asks-structure : (flag : ℕ) → Bool
+asks-structure flag = not (eqb flag 0)
+
 -- ---- the token record: "Length (2 bytes), kind (2 bytes ..), span start and end (4 bytes each ..)", then the word of kind 0
 
 -- Byte offset of "span start and end" in a token record.
 abbrev pub at-span : ℕ
 at-span = 4
 
+-- "span start and end (4 bytes each ..)": how many bytes a width is.
+abbrev pub bytes-of : SpanWidth → ℕ
+bytes-of Four = 4
+bytes-of Eight = 8
+
+-- "(4 bytes each ..)" in a format.
+abbrev pub span-bytes : Format → ℕ
+span-bytes f = bytes-of (f .«span_width»)
+
 -- The length without a word: 12 in document 01's format.
 abbrev pub token-length : Format → ℕ
-token-length f = at-span + 2 * f .span-bytes
+token-length f = at-span + 2 * span-bytes f
 
 -- "A word of 1 to 255 bytes, each 33 to 126".
 abbrev pub longest-word : ℕ
@@ -106,22 +112,30 @@ declared language =
     else if eqb language Fortran then Fortran2023 + 1
     else 0
 
--- "255 means C18, Cpp17 or Fortran2018": what the number means in a language.
-unfoldable pub stands-for : (language : ℕ) → Stand-in → Meaning
-stands-for language s =
-    if eqb language C then Means (s .c)
-    else if eqb language Cpp then Means (s .cpp)
-    else if eqb language Fortran then Means (s .fortran)
+-- "A number outside that order counts as the standard it means": what it means in a language.
+unfoldable pub stands-for : (language : ℕ) → StandIn → Meaning
+stands-for language Nothing = Unknown
+stands-for language (StandsFor c cpp fortran) =
+    if eqb language C then Means c
+    else if eqb language Cpp then Means cpp
+    else if eqb language Fortran then Means fortran
     else Unknown
 
--- "A number outside that order counts as the standard it means", if it is one of these.
-unfoldable pub among : (language standard : ℕ) → List Stand-in → Meaning
-among language standard [] = Unknown
-among language standard (s ∷ ss) = if eqb standard (s .number) then stands-for language s else among language standard ss
+-- The numbers outside that order that a format may know.
+abbrev pub standard-254 : ℕ
+standard-254 = 254
+
+-- "255 means ..".
+abbrev pub standard-255 : ℕ
+standard-255 = 255
 
 -- "A number outside that order counts as the standard it means."
 unfoldable pub meant : Format → (language standard : ℕ) → Meaning
-meant f language standard = if ltb standard (declared language) then Means standard else among language standard (f .stand-ins)
+meant f language standard =
+    if ltb standard (declared language) then Means standard
+    else if eqb standard standard-255 then stands-for language (f .«means_255»)
+    else if eqb standard standard-254 then stands-for language (f .«means_254»)
+    else Unknown
 
 -- Document 01's **later**: "A standard is later than another if its language declares it after that one". Of two standards of one language, each
 -- the one that is meant, the second is the same or later.

@@ -6,5 +6,6 @@ pub mod Tokens
 pub mod KnownWords
 pub mod KnownTable
 pub mod KnownSearch
+pub mod RowEnd
 pub mod RowLoop
 pub mod RowFacts

@@ -5,6 +5,7 @@ pub mod Words
 pub mod Refusals
 pub mod Format
 pub mod Records
+pub mod Allowance
 pub mod RowRead
 pub mod Laws
 pub mod Examples

@@ -8,7 +8,8 @@ use lib.Dec.{leb, ltb, eqb}
 use Rattle.rows.specs.Notation.{if_then_else_}
 use Rattle.rows.specs.Kinds.{Identifier, End}
 use Rattle.rows.specs.Words.{word-number}
-use Rattle.rows.specs.Format.{Format, short-bytes, allowance-bytes, head-length, at-length, at-kind, at-language, at-standard, at-flag, at-allowance, at-span, token-length, longest-word, least-word-byte, greatest-word-byte, most-tokens, meant}
+use Rattle.rows.specs.Format.{short-bytes, allowance-bytes, head-length, at-length, at-kind, at-language, at-standard, at-flag, at-allowance, at-span, span-bytes, token-length, longest-word, least-word-byte, greatest-word-byte, most-tokens, meant}
+use Rattle.rows.specs.declared.format.Format.{Format}
 use Rattle.rows.specs.declared.answer.TypeNameError.{TypeNameError}
 use Rattle.rows.specs.declared.answer.TypeNameError.the-variants.{FileTooLong, InvalidHead, UnknownProfile, InvalidRecord, TooManyRecords}
 use Rattle.rows.specs.declared.head.Meaning.{Meaning}
@@ -39,15 +40,20 @@ pub data Row : Type 0 where
   refused : TypeNameError → Row
   row : List RowToken → Row
 
+-- The tokens of records that stand one after another, and the byte offset behind them; or the byte offset of a malformed one.
+pub data Tokens : Type 0 where
+  malformed : (offset : ℕ) → Tokens
+  tokens : List RowToken → (next : ℕ) → Tokens
+
 -- "Each 33 to 126".
 unfoldable pub in-range : List ℕ → Bool
 in-range [] = true
 in-range (b ∷ bs) = leb least-word-byte b && leb b greatest-word-byte && in-range bs
 
--- One token more in front of a row: "Each record in turn".
-unfoldable pub before-row : RowToken → Row → Row
-before-row t (refused e) = refused e
-before-row t (row ts) = row (t ∷ ts)
+-- One token more in front: "Each record in turn".
+unfoldable pub before-tokens : RowToken → Tokens → Tokens
+before-tokens t (malformed offset) = malformed offset
+before-tokens t (tokens ts next) = tokens (t ∷ ts) next
 
 module _ (f : Format) (file : List ℕ) where
   -- ---- the head record: refusals 1 to 3
@@ -57,8 +63,8 @@ module _ (f : Format) (file : List ℕ) where
   head-formed =
       leb head-length (length file)
       && eqb (little-endian short-bytes file at-length) head-length
-      && eqb (little-endian short-bytes file at-kind) (f .head-kind)
-      && leb (getD file at-flag 0) (f .greatest-flag)
+      && eqb (little-endian short-bytes file at-kind) (f .«head_kind»)
+      && leb (getD file at-flag 0) (f .«greatest_flag»)
 
   -- "3 unknown language or standard", or the head with the standard that is meant.
   unfoldable pub head-with : Meaning → FileHead
@@ -69,7 +75,7 @@ module _ (f : Format) (file : List ℕ) where
   -- The place "File" of the table: refusals 1, 2 and 3 in this order.
   unfoldable pub head : FileHead
   head =
-      if ltb (f .file-limit) (length file) then Refused FileTooLong
+      if ltb (f .«file_limit») (length file) then Refused FileTooLong
       else if not head-formed then Refused InvalidHead
       else head-with (meant f (getD file at-language 0) (getD file at-standard 0))
 
@@ -85,11 +91,11 @@ module _ (f : Format) (file : List ℕ) where
 
   -- "span start .. (4 bytes ..)" of it.
   unfoldable pub span-start-at : (at : ℕ) → ℕ
-  span-start-at at = little-endian (f .span-bytes) file (at + at-span)
+  span-start-at at = little-endian (span-bytes f) file (at + at-span)
 
   -- "span .. end (4 bytes ..)" of it.
   unfoldable pub span-end-at : (at : ℕ) → ℕ
-  span-end-at at = little-endian (f .span-bytes) file (at + at-span + f .span-bytes)
+  span-end-at at = little-endian (span-bytes f) file (at + at-span + span-bytes f)
 
   -- "The word is handed on as that part of the caller's file."
   unfoldable pub word-at : (at : ℕ) → List ℕ
@@ -124,19 +130,28 @@ module _ (f : Format) (file : List ℕ) where
   word-in at TokenRecord.Malformed = []
   word-in at (TokenRecord.Formed kind length) = word-at at
 
-  -- "4 record malformed .. (detail: its byte offset)", or its token before what the records after it give.
-  unfoldable pub after-record : (at : ℕ) → TokenRecord → (ℕ → Row) → Row
-  after-record at TokenRecord.Malformed rest = refused (InvalidRecord at)
-  after-record at (TokenRecord.Formed kind length) rest = before-row (record { place = at; kind = kind; word = word-at at }) (rest (at + length))
+  -- A "record malformed", or its token before what the records after it give.
+  unfoldable pub after-record : (at : ℕ) → TokenRecord → (ℕ → Tokens) → Tokens
+  after-record at TokenRecord.Malformed rest = malformed at
+  after-record at (TokenRecord.Formed kind length) rest = before-tokens (record { place = at; kind = kind; word = word-at at }) (rest (at + length))
 
-  -- The records from a byte offset to the file's end, at most so many of them: "5 a 1,025th record begins; 4 record malformed (detail: its byte offset)".
-  unfoldable pub records-from : (most at : ℕ) → Row
-  records-from zero at = if leb (length file) at then row [] else refused TooManyRecords
-  records-from (suc most) at =
-      elim (leb (length file) at) as (λ _. Row) [
-        | true ↦ row []
-        | false ↦ after-record at (found at) (λ next. records-from most next)
+  -- "Each record in turn" from a byte offset on, at most so many, and none behind the file's end.
+  unfoldable pub tokens-from : (most at : ℕ) → Tokens
+  tokens-from zero at = tokens [] at
+  tokens-from (suc most) at =
+      elim (leb (length file) at) as (λ _. Tokens) [
+        | true ↦ tokens [] at
+        | false ↦ after-record at (found at) (λ next. tokens-from most next)
       ]
+
+  -- "4 record malformed (detail: its byte offset)"; "5 a 1,025th record begins": bytes are left behind the most records.
+  unfoldable pub to-end : Tokens → Row
+  to-end (malformed offset) = refused (InvalidRecord offset)
+  to-end (tokens ts next) = if leb (length file) next then row ts else refused TooManyRecords
+
+  -- The row from a byte offset to the file's end, of at most so many tokens: refusals 5 and 4.
+  unfoldable pub records-from : (most at : ℕ) → Row
+  records-from most at = to-end (tokens-from most at)
 
 -- ---- what the layers above are given of a row
 

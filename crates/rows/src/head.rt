@@ -3,26 +3,19 @@
 use crate::answer::TypeNameError;
 use crate::bytes::four_bytes;
 use crate::bytes::two_bytes;
+use crate::format::Format;
+use crate::format::StandIn;
 use crate::languages::C;
-use crate::languages::C18;
 use crate::languages::C23;
 use crate::languages::CPP;
-use crate::languages::CPP17;
 use crate::languages::CPP23;
 use crate::languages::FORTRAN;
-use crate::languages::FORTRAN2018;
 use crate::languages::FORTRAN2023;
 ghost use mathlib.Core.Path.{_≡_};
-ghost use Rattle.rows.specs.Format.{declared, format, meant, stands-for, standard-255};
+ghost use Rattle.rows.specs.Format.{asks-structure, declared, meant, stands-for};
 ghost use Rattle.rows.specs.Records.{head};
 
-pub const FILE_LIMIT: usize = 65536;
-
 pub const HEAD_LENGTH: usize = 11;
-
-const HEAD_KIND: usize = 256;
-
-const GREATEST_FLAG: u8 = 1;
 
 const AT_LENGTH: usize = 0;
 
@@ -37,10 +30,15 @@ const AT_FLAG: usize = 6;
 
 const AT_ALLOWANCE: usize = 7;
 
-// Stands for C18, Cpp17 or Fortran2018.
+// Numbers outside the order in which standards are declared, which a format may know.
+const STANDARD_254: u8 = 254;
+
 const STANDARD_255: u8 = 255;
 
-// `standard` is the one that is meant: 255 stands for another number.
+// The flag by which the structure is not checked.
+const WITHOUT_STRUCTURE: u8 = 0;
+
+// `standard` is the one that is meant: 255, for one, stands for another number.
 pub struct Head {
     pub language: u8,
     pub standard: u8,
@@ -75,38 +73,53 @@ fn declared_standards(language: u8) -> u8
     0
 }
 
-fn meaning_of_255(language: u8) -> Meaning
-    ensures { λ r. ⌜ r ≡ stands-for language standard-255 ⌝ }
+fn stands_for(language: u8, number: StandIn) -> Meaning
+    ensures { λ r. ⌜ r ≡ stands-for language number ⌝ }
 {
+    let StandIn::StandsFor { c, cpp, fortran } = number else {
+        return Meaning::Unknown;
+    };
     if language == C {
-        return Meaning::Means(C18);
+        return Meaning::Means(c);
     }
     if language == CPP {
-        return Meaning::Means(CPP17);
+        return Meaning::Means(cpp);
     }
     if language == FORTRAN {
-        return Meaning::Means(FORTRAN2018);
+        return Meaning::Means(fortran);
     }
     Meaning::Unknown
 }
 
-fn meant_standard(language: u8, standard: u8) -> Meaning
+fn meant_standard(format: Format, language: u8, standard: u8) -> Meaning
     ensures { λ r. ⌜ r ≡ meant format language standard ⌝ }
 {
     if standard < declared_standards(language) {
         return Meaning::Means(standard);
     }
     if standard == STANDARD_255 {
-        return meaning_of_255(language);
+        let meaning = format.means_255;
+        return stands_for(language, meaning);
+    }
+    if standard == STANDARD_254 {
+        let meaning = format.means_254;
+        return stands_for(language, meaning);
     }
     Meaning::Unknown
 }
 
+// Whether the flag asks for the structure check.
+pub fn asks_structure(flag: u8) -> bool
+    ensures { λ r. ⌜ r ≡ asks-structure flag ⌝ }
+{
+    !(flag == WITHOUT_STRUCTURE)
+}
+
 // The head of a file, or refusal 1, 2 or 3.
-pub fn read_head(file: &[u8]) -> FileHead
+pub fn read_head(format: Format, file: &[u8]) -> FileHead
     ensures { λ r. ⌜ r ≡ head format (now (file .entry)) ⌝ }
 {
-    if FILE_LIMIT < file.len() {
+    if (format.file_limit as usize) < file.len() {
         return FileHead::Refused(TypeNameError::FileTooLong);
     }
     if file.len() < HEAD_LENGTH {
@@ -115,15 +128,15 @@ pub fn read_head(file: &[u8]) -> FileHead
     if two_bytes(file, AT_LENGTH) != HEAD_LENGTH {
         return FileHead::Refused(TypeNameError::InvalidHead);
     }
-    if two_bytes(file, AT_KIND) != HEAD_KIND {
+    if two_bytes(file, AT_KIND) != format.head_kind {
         return FileHead::Refused(TypeNameError::InvalidHead);
     }
     let flag = file[AT_FLAG];
-    if GREATEST_FLAG < flag {
+    if format.greatest_flag < flag {
         return FileHead::Refused(TypeNameError::InvalidHead);
     }
     let language = file[AT_LANGUAGE];
-    let found = meant_standard(language, file[AT_STANDARD]);
+    let found = meant_standard(format, language, file[AT_STANDARD]);
     let Meaning::Means(standard) = found else {
         return FileHead::Refused(TypeNameError::UnknownProfile);
     };

@@ -2,6 +2,7 @@
 
 pub mod answer;
 pub mod bytes;
+pub mod format;
 pub mod head;
 pub mod kinds;
 pub mod languages;

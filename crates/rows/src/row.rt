@@ -1,7 +1,8 @@
 // The row of a file, decoded once into lent arrays.
 
 use crate::answer::TypeNameError;
-use crate::token::TOKEN_LENGTH;
+use crate::format::Format;
+use crate::format::token_length;
 use crate::token::TokenRecord;
 use crate::token::token_at;
 use crate::words::FIRSTS;
@@ -11,44 +12,52 @@ use crate::words::STARTS;
 use crate::words::TEXTS;
 use crate::words::number_of_word;
 ghost use mathlib.Core.Path.{_≡_};
-ghost use Rattle.rows.specs.RowRead.{Reads, Room};
+ghost use Rattle.rows.specs.RowRead.{Reads, ReadsRecords, Room};
 
 // Refusal 5: a record more begins.
 pub const MOST_TOKENS: usize = 1024;
+
+// `next`: where the records after these begin.
+pub enum RecordsRead {
+    Tokens { count: usize, next: usize },
+    Malformed { offset: usize },
+}
 
 pub enum RowRead {
     Tokens(usize),
     Refused(TypeNameError),
 }
 
-// The token records from a byte offset to the file's end, at most so many: each token's kind, word number and byte offset.
-pub fn read_row(
+// The token records from a byte offset on, at most so many: each token's kind, word number and byte offset.
+pub fn read_records(
+    format: Format,
     file: &[u8],
     begin: usize,
     most: usize,
     kinds: &mut [u8],
     words: &mut [u8],
     places: &mut [u32],
-) -> RowRead
+) -> RecordsRead
     requires { ⌜ Room (now file) most (now kinds) (now words) (now places) ⌝ }
-    ensures { λ r. ⌜ Reads (now (file .entry)) begin most (now (kinds .entry)) (now (words .entry)) (now (places .entry)) r (now (kinds .exit)) (now (words .exit)) (now (places .exit)) ⌝ }
+    ensures { λ r. ⌜ ReadsRecords format (now (file .entry)) begin most (now (kinds .entry)) (now (words .entry)) (now (places .entry)) r (now (kinds .exit)) (now (words .exit)) (now (places .exit)) ⌝ }
 {
     let texts = TEXTS;
     let numbers = NUMBERS;
     let firsts = FIRSTS;
     let starts = STARTS;
     let shorter = SHORTER;
+    let plain = token_length(format);
     let mut at = begin;
     let mut count: usize = 0;
     while at < file.len() {
         if count == most {
-            return RowRead::Refused(TypeNameError::TooManyRecords);
+            return RecordsRead::Tokens { count, next: at };
         }
-        let found = token_at(file, at);
+        let found = token_at(format, file, at);
         let TokenRecord::Formed { kind, length } = found else {
-            return RowRead::Refused(TypeNameError::InvalidRecord { offset: at as u32 });
+            return RecordsRead::Malformed { offset: at };
         };
-        let word = at + TOKEN_LENGTH;
+        let word = at + plain;
         let next = at + length;
         kinds[count] = kind;
         words[count] = number_of_word(
@@ -63,5 +72,32 @@ pub fn read_row(
         count += 1;
         at = next;
     }
-    RowRead::Tokens(count)
+    RecordsRead::Tokens { count, next: at }
+}
+
+// The row from a byte offset to the file's end, of at most so many tokens.
+pub fn read_row(
+    format: Format,
+    file: &[u8],
+    begin: usize,
+    most: usize,
+    kinds: &mut [u8],
+    words: &mut [u8],
+    places: &mut [u32],
+) -> RowRead
+    requires { ⌜ Room (now file) most (now kinds) (now words) (now places) ⌝ }
+    ensures { λ r. ⌜ Reads format (now (file .entry)) begin most (now (kinds .entry)) (now (words .entry)) (now (places .entry)) r (now (kinds .exit)) (now (words .exit)) (now (places .exit)) ⌝ }
+{
+    let read = read_records(format, file, begin, most, kinds, words, places);
+    match read {
+        RecordsRead::Malformed { offset } => RowRead::Refused(TypeNameError::InvalidRecord {
+            offset: offset as u32,
+        }),
+        RecordsRead::Tokens { count, next } => {
+            if next < file.len() {
+                return RowRead::Refused(TypeNameError::TooManyRecords);
+            }
+            RowRead::Tokens(count)
+        }
+    }
 }

@@ -1,22 +1,21 @@
 // Token records: document 01, "Token record".
 
+use crate::bytes::eight_bytes;
 use crate::bytes::four_bytes;
 use crate::bytes::two_bytes;
+use crate::format::AT_SPAN;
+use crate::format::Format;
+use crate::format::SpanWidth;
+use crate::format::span_bytes;
+use crate::format::token_length;
 use crate::head::AT_KIND;
 use crate::kinds::END;
 use crate::kinds::IDENTIFIER;
 ghost use mathlib.Core.Path.{_≡_};
 ghost use Prim.Native.Nat.{_+_, _≤_};
 ghost use lib.ListN.{length};
-ghost use Rattle.rows.specs.Format.{format};
-ghost use Rattle.rows.specs.Records.{found, in-range, kind-at, length-at, length-fits, word-fits, word-in};
-
-const AT_SPAN: usize = 4;
-
-const SPAN_BYTES: usize = 4;
-
-// The length without a word.
-pub const TOKEN_LENGTH: usize = 12;
+ghost use Rattle.rows.specs.Format.{bytes-of, token-length};
+ghost use Rattle.rows.specs.Records.{found, in-range, kind-at, length-at, length-fits, little-endian, word-fits, word-in};
 
 const LONGEST_WORD: usize = 255;
 
@@ -44,55 +43,71 @@ fn is_word(word: &[u8]) -> bool
     fits
 }
 
+// The number of a span at a byte offset.
+fn span_number(file: &[u8], at: usize, width: SpanWidth) -> usize
+    requires { ⌜ at + bytes-of width ≤ length (now file) ⌝ }
+    ensures { λ r. ⌜ r ≡ little-endian (bytes-of width) (now (file .entry)) at ⌝ }
+{
+    match width {
+        SpanWidth::Four => four_bytes(file, at),
+        SpanWidth::Eight => eight_bytes(file, at),
+    }
+}
+
 // The record at a byte offset has a word of 1 to 255 bytes that are in range; `size` is its length.
-fn word_fits(file: &[u8], at: usize, size: usize) -> bool
-    requires { ⌜ (at + 12 ≤ length (now file)) × (size ≡ length-at format (now file) at) ⌝ }
+fn word_fits(format: Format, file: &[u8], at: usize, size: usize) -> bool
+    requires { ⌜ (at + token-length format ≤ length (now file)) × (size ≡ length-at format (now file) at) ⌝ }
     ensures { λ r. ⌜ r ≡ word-fits format (now (file .entry)) at ⌝ }
 {
-    if size <= TOKEN_LENGTH {
+    let plain = token_length(format);
+    if size <= plain {
         return false;
     }
-    if TOKEN_LENGTH + LONGEST_WORD < size {
+    if plain + LONGEST_WORD < size {
+        return false;
+    }
+    if file.len() - at < size {
         return false;
     }
     let end = at + size;
-    if file.len() < end {
-        return false;
-    }
-    let begin = at + TOKEN_LENGTH;
+    let begin = at + plain;
     is_word(&file[begin..end])
 }
 
 // The record at a byte offset, of this kind and size, is as long as its kind asks.
-fn length_fits(file: &[u8], at: usize, kind: usize, size: usize) -> bool
-    requires { ⌜ (at + 12 ≤ length (now file)) × (kind ≡ kind-at format (now file) at) × (size ≡ length-at format (now file) at) ⌝ }
+fn length_fits(format: Format, file: &[u8], at: usize, kind: usize, size: usize) -> bool
+    requires { ⌜ (at + token-length format ≤ length (now file)) × (kind ≡ kind-at format (now file) at) × (size ≡ length-at format (now file) at) ⌝ }
     ensures { λ r. ⌜ r ≡ length-fits format (now (file .entry)) at ⌝ }
 {
     if kind == (IDENTIFIER as usize) {
-        return word_fits(file, at, size);
+        return word_fits(format, file, at, size);
     }
-    size == TOKEN_LENGTH
+    size == token_length(format)
 }
 
 // The token record at any byte offset.
-pub fn token_at(file: &[u8], at: usize) -> TokenRecord
+pub fn token_at(format: Format, file: &[u8], at: usize) -> TokenRecord
     ensures { λ r. ⌜ r ≡ found format (now (file .entry)) at ⌝ }
 {
-    if file.len() < TOKEN_LENGTH {
+    let plain = token_length(format);
+    if file.len() < plain {
         return TokenRecord::Malformed;
     }
-    if file.len() - TOKEN_LENGTH < at {
+    if file.len() - plain < at {
         return TokenRecord::Malformed;
     }
     let kind = two_bytes(file, at + AT_KIND);
     if (END as usize) < kind {
         return TokenRecord::Malformed;
     }
-    if four_bytes(file, at + AT_SPAN + SPAN_BYTES) < four_bytes(file, at + AT_SPAN) {
+    let width = format.span_width;
+    let start = at + AT_SPAN;
+    let end = start + span_bytes(width);
+    if span_number(file, end, width) < span_number(file, start, width) {
         return TokenRecord::Malformed;
     }
     let length = two_bytes(file, at);
-    if length_fits(file, at, kind, length) {
+    if length_fits(format, file, at, kind, length) {
         return TokenRecord::Formed {
             kind: kind as u8,
             length,
@@ -102,14 +117,14 @@ pub fn token_at(file: &[u8], at: usize) -> TokenRecord
 }
 
 // The word of the token record at any byte offset, as that part of the caller's file; empty where no word stands.
-pub fn word(file: &[u8], place: usize) -> &[u8]
+pub fn word(format: Format, file: &[u8], place: usize) -> &[u8]
     ensures { λ r. ⌜ now r ≡ word-in format (now (file .entry)) place (found format (now (file .entry)) place) ⌝ }
 {
-    let found = token_at(file, place);
+    let found = token_at(format, file, place);
     let TokenRecord::Formed { kind: _, length } = found else {
         return &file[..0];
     };
-    let begin = place + TOKEN_LENGTH;
+    let begin = place + token_length(format);
     let end = place + length;
     &file[begin..end]
 }

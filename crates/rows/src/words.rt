@@ -50,10 +50,18 @@ ghost use mathlib.Core.Path.{_≡_};
 ghost use Prim.Native.Nat.{_+_, _≤_};
 ghost use lib.ListN.{drop, length, take};
 ghost use Rattle.rows.specs.Words.{lower, word-number};
-ghost use Rattle.rows.specs.Laws.KnownWords.{compared, texts};
+ghost use Rattle.rows.specs.Laws.KnownWords.{compared, texts, texts-length};
 ghost use Rattle.rows.specs.Laws.KnownTable.{Tables};
 
+const KNOWN_WORDS: usize = 42;
+
 const LONGEST_KNOWN: usize = 16;
+
+// One more than there are lengths of known words, and where the longer ones would begin.
+const WORD_SIZES: usize = 18;
+
+// The bytes of all known words.
+const TEXTS_LENGTH: usize = 307;
 
 const CAPITAL_A: u8 = 65;
 
@@ -65,11 +73,11 @@ const TO_SMALL: u8 = 32;
 // The tables are lent to the search: made anew at each use, they would be copied at each use.
 
 // The known words one after another, shorter ones first, those of one length by their numbers.
-pub const TEXTS: [u8; 307] =
+pub const TEXTS: [u8; TEXTS_LENGTH] =
     *b"intvoidboolcharlongenumtype_Boolfloatshortconstunionclassdoublesignedtypeofstructwchar_tchar8_t_Atomic_BitIntcomplexchar16_tchar32_tunsigned_Complexvolatilerestrictnoexceptdecltype__typeoftypenameprecision_Decimal32_Decimal64_Imaginary__restrict__typeof___Decimal128__restrict__typeof_unqualtransaction_safe";
 
 // Their numbers, in that order.
-pub const NUMBERS: [u8; 42] = [
+pub const NUMBERS: [u8; KNOWN_WORDS] = [
     INT,
     VOID,
     BOOL,
@@ -115,10 +123,10 @@ pub const NUMBERS: [u8; 42] = [
 ];
 
 // Their first bytes in lower case.
-pub const FIRSTS: [u8; 42] = *b"ivbclet_fscucdstswc__cccu_vrnd_tp_______tt";
+pub const FIRSTS: [u8; KNOWN_WORDS] = *b"ivbclet_fscucdstswc__cccu_vrnd_tp_______tt";
 
 // Where each begins in TEXTS.
-pub const STARTS: [u16; 42] = [
+pub const STARTS: [u16; KNOWN_WORDS] = [
     0,
     3,
     7,
@@ -164,7 +172,7 @@ pub const STARTS: [u16; 42] = [
 ];
 
 // For each length, how many known words are shorter.
-pub const SHORTER: [u8; 18] = [
+pub const SHORTER: [u8; WORD_SIZES] = [
     0,
     0,
     0,
@@ -204,8 +212,8 @@ fn lower_case(byte: u8) -> u8
 }
 
 // A word beside the known text of the same length that begins at a place of TEXTS.
-fn compare(word: &[u8], known: &[u8; 307], begin: usize) -> Comparison
-    requires { ⌜ (begin + length (now word) ≤ 307) × (now known ≡ texts) ⌝ }
+fn compare(word: &[u8], known: &[u8; TEXTS_LENGTH], begin: usize) -> Comparison
+    requires { ⌜ (begin + length (now word) ≤ texts-length) × (now known ≡ texts) ⌝ }
     ensures { λ r. ⌜ r ≡ compared (now (word .entry)) (take (length (now (word .entry))) (drop begin texts)) ⌝ }
 {
     let mut exact = true;
@@ -232,11 +240,11 @@ fn compare(word: &[u8], known: &[u8; 307], begin: usize) -> Comparison
 // The number of a word: n for known word n, n + 128 for known word n in another case, 0 for every other word.
 pub fn number_of_word(
     word: &[u8],
-    known: &[u8; 307],
-    numbers: &[u8; 42],
-    firsts: &[u8; 42],
-    starts: &[u16; 42],
-    shorter: &[u8; 18],
+    known: &[u8; TEXTS_LENGTH],
+    numbers: &[u8; KNOWN_WORDS],
+    firsts: &[u8; KNOWN_WORDS],
+    starts: &[u16; KNOWN_WORDS],
+    shorter: &[u8; WORD_SIZES],
 ) -> u8
     requires { ⌜ Tables (now known) (now numbers) (now firsts) (now starts) (now shorter) ⌝ }
     ensures { λ r. ⌜ r ≡ word-number (now (word .entry)) ⌝ }

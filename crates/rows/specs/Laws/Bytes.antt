@@ -4,7 +4,7 @@ use Prim.Native.Nat.{ℕ, suc, _+_, _*_}
 use mathlib.Core.Path.{_≡_, refl, sym, ap}
 use mathlib.Core.List.{List}
 use native.Mathlib.Omega.{arith}
-use native.Mathlib.Numerals.{add-one, add-two}
+use native.Mathlib.Numerals.{add-one, add-two, add-four}
 use lib.ListN.{getD}
 use Rattle.rows.specs.Records.{little-endian}
 
@@ -15,3 +15,7 @@ two-bytes file at = rw add-one (omega arith)
 pub four-bytes : (file : List ℕ) (at : ℕ) → little-endian 4 file at ≡ little-endian 2 file at + 65536 * little-endian 2 file (at + 2)
 unfolding little-endian
 four-bytes file at = rw add-two (omega arith)
+
+pub eight-bytes : (file : List ℕ) (at : ℕ) → little-endian 8 file at ≡ little-endian 4 file at + 4294967296 * little-endian 4 file (at + 4)
+unfolding little-endian
+eight-bytes file at = rw add-four (omega arith)

@@ -13,7 +13,7 @@ use lib.Dec.{T, leb, ltb, eqb, leb→le}
 use Rattle.rows.specs.Laws.Tests.{and-false}
 use Rattle.rows.specs.Notation.{if_then_else_}
 use Rattle.rows.specs.Words.{Known, known, bytes, same-through, same-exactly, same-ignoring-case, lower, number-among, word-number, no-word, other-case}
-use Rattle.rows.specs.Laws.KnownWords.{compared, byte-differs, nothing-yet, start, of-length, groups, ordered, spellings, texts, texts-long}
+use Rattle.rows.specs.Laws.KnownWords.{compared, byte-differs, nothing-yet, start, of-length, groups, ordered, spellings, texts, texts-long, texts-length}
 use Rattle.rows.specs.Laws.KnownTable.{piece, start-suc, start-le, shorter, shorter-at, starts, starts-at, numbers, firsts, no-entry, ordered-long, rows-of, groups-long, group-rows, rows-cons, rows-end, last-row}
 use Rattle.rows.specs.declared.words.Comparison.{Comparison}
 use Rattle.rows.specs.declared.words.Comparison.the-variants.{Exact, OtherCase, Different}
@@ -165,7 +165,7 @@ module _ (w : List ℕ) (r b : ℕ) (s : Searching w r b) (more : r < b) where
       let size : length w ≡ length (getD spellings r []) = sym (entries-here .0 .long) ∙ ap length (sym (spelling-at r)) in
       rw (place, size) (piece spellings r (omega (arith, spellings-long, s .last))) ∙ spelling-at r
 
-  pub room : getD starts r 0 + length w ≤ 307
+  pub room : getD starts r 0 + length w ≤ texts-length
   unfolding texts
   room =
       let place : getD starts r 0 ≡ start spellings r = starts-at r (omega (arith, s .last)) in

@@ -119,17 +119,21 @@ module _ (w v : List ℕ) (same-length : length v ≡ length w) where
 
 -- ---- the text that begins at a place of `texts`
 
-pub texts-long : length texts ≡ 307
+-- The bytes of all known words.
+abbrev pub texts-length : ℕ
+texts-length = 307
+
+pub texts-long : length texts ≡ texts-length
 unfolding texts
 texts-long = refl
 
-pub text-length : (begin n : ℕ) → begin + n ≤ 307 → length (take n (drop begin texts)) ≡ n
+pub text-length : (begin n : ℕ) → begin + n ≤ texts-length → length (take n (drop begin texts)) ≡ n
 text-length begin n p = length-take-le n (drop begin texts) (rw (length-drop, texts-long) (omega arith))
 
 pub text-byte : (begin n i : ℕ) → i < n → getD (take n (drop begin texts)) i 0 ≡ getD texts (begin + i) 0
 text-byte begin n i p = getD-take n (drop begin texts) i 0 p ∙ getD-drop begin texts i 0
 
-module _ (w : List ℕ) (begin : ℕ) (room : begin + length w ≤ 307) (exact : Bool) (i : ℕ) (s : SoFar w (take (length w) (drop begin texts)) exact i) where
+module _ (w : List ℕ) (begin : ℕ) (room : begin + length w ≤ texts-length) (exact : Bool) (i : ℕ) (s : SoFar w (take (length w) (drop begin texts)) exact i) where
   abbrev text : List ℕ
   text = take (length w) (drop begin texts)
 

@@ -14,7 +14,8 @@ use mir.Facts.{and-yes}
 use lib.Seq.{drop-cons}
 use Rattle.rows.specs.Notation.{if_then_else_}
 use Rattle.rows.specs.Kinds.{Identifier, End}
-use Rattle.rows.specs.Format.{Format, token-length, longest-word, least-word-byte, greatest-word-byte}
+use Rattle.rows.specs.Format.{token-length, longest-word, least-word-byte, greatest-word-byte}
+use Rattle.rows.specs.declared.format.Format.{Format}
 use Rattle.rows.specs.Records.{in-range, length-at, kind-at, span-start-at, span-end-at, word-at, word-fits, length-fits, well-formed, found, word-in}
 use Rattle.rows.specs.Laws.Tests.{by-if, and-true}
 use Rattle.rows.specs.declared.token.TokenRecord.{TokenRecord}

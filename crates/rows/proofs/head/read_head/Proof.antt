@@ -13,6 +13,9 @@ use Rattle.rows.proofs.bytes.four_bytes.Reads as four-bytes-reads
 use Rattle.rows.proofs.bytes.two_bytes.Reads as two-bytes-reads
 use Rattle.rows.proofs.head.meant_standard.Reads as meant-standard-reads
 
+cast-if1 : tie.Need-cast-if1
+cast-if1 c = search needs
+
 returns : tie.Need-returns
 unfolding head
 returns c = simp (head, lt-ltb _ _ (c .if1 .taken))
@@ -33,14 +36,14 @@ two-bytes-requires-2 c κs = search needs
 
 returns-4 : tie.Need-returns-4
 unfolding head head-formed
-returns-4 c = simp (head, head-formed, le-ltb _ _ (c .before .before .before .before .before .if1 .left), le-leb _ _ (c .before .before .before .before .if2 .left), eq-eqb _ _ (rw (c .before .before .before .two-bytes .ensures .0) at (c .before .before .if3 .left)), ne-eqb _ _ (rw (c .before .two-bytes2 .ensures .0) at (c .if4 .taken)))
+returns-4 c = simp (head, head-formed, le-ltb _ _ (c .before .before .before .before .before .before .if1 .left), le-leb _ _ (c .before .before .before .before .before .if2 .left), eq-eqb _ _ (rw (c .before .before .before .before .two-bytes .ensures .0) at (c .before .before .before .if3 .left)), ne-eqb _ _ (rw (c .before .before .two-bytes2 .ensures .0) at (c .if4 .taken)))
 
 shared-slice-read-flag : tie.Need-shared-slice-read-flag
 shared-slice-read-flag c = search needs
 
 returns-5 : tie.Need-returns-5
 unfolding head head-formed
-returns-5 c = simp (head, head-formed, le-ltb _ _ (c .before .before .before .before .before .before .before .if1 .left), le-leb _ _ (c .before .before .before .before .before .before .if2 .left), eq-eqb _ _ (rw (c .before .before .before .before .before .two-bytes .ensures .0) at (c .before .before .before .before .if3 .left)), eq-eqb _ _ (rw (c .before .before .before .two-bytes2 .ensures .0) at (c .before .before .if4 .left)), lt-leb _ _ (c .if5 .taken))
+returns-5 c = simp (head, head-formed, le-ltb _ _ (c .before .before .before .before .before .before .before .before .before .if1 .left), le-leb _ _ (c .before .before .before .before .before .before .before .before .if2 .left), eq-eqb _ _ (rw (c .before .before .before .before .before .before .before .two-bytes .ensures .0) at (c .before .before .before .before .before .before .if3 .left)), eq-eqb _ _ (rw (c .before .before .before .before .before .two-bytes2 .ensures .0) at (c .before .before .before .if4 .left)), lt-leb _ _ (c .if5 .taken))
 
 shared-slice-read-language : tie.Need-shared-slice-read-language
 shared-slice-read-language c = search needs
@@ -59,7 +62,7 @@ enum-told c = search needs
 
 returns-6 : tie.Need-returns-6
 unfolding head head-formed head-with
-returns-6 c = simp (head, head-formed, le-ltb _ _ (c .before .before .before .before .before .before .before .before .before .before .before .before .if1 .left), le-leb _ _ (c .before .before .before .before .before .before .before .before .before .before .before .if2 .left), eq-eqb _ _ (rw (c .before .before .before .before .before .before .before .before .before .before .two-bytes .ensures .0) at (c .before .before .before .before .before .before .before .before .before .if3 .left)), eq-eqb _ _ (rw (c .before .before .before .before .before .before .before .before .two-bytes2 .ensures .0) at (c .before .before .before .before .before .before .before .if4 .left)), le-leb _ _ (c .before .before .before .before .before .if5 .left), ← c .before .before .meant-standard .ensures, c .enum-told .given .1, head-with)
+returns-6 c = simp (head, head-formed, le-ltb _ _ (c .before .before .before .before .before .before .before .before .before .before .before .before .before .before .if1 .left), le-leb _ _ (c .before .before .before .before .before .before .before .before .before .before .before .before .before .if2 .left), eq-eqb _ _ (rw (c .before .before .before .before .before .before .before .before .before .before .before .before .two-bytes .ensures .0) at (c .before .before .before .before .before .before .before .before .before .before .before .if3 .left)), eq-eqb _ _ (rw (c .before .before .before .before .before .before .before .before .before .before .two-bytes2 .ensures .0) at (c .before .before .before .before .before .before .before .before .if4 .left)), le-leb _ _ (c .before .before .before .before .before .if5 .left), ← c .before .before .meant-standard .ensures, c .enum-told .given .1, head-with)
 
 four-bytes-requires : tie.Need-four-bytes-requires
 four-bytes-requires c κs = search needs
@@ -69,12 +72,13 @@ cast-allowance c = search needs
 
 returns-7 : tie.Need-returns-7
 unfolding head head-formed head-with
-returns-7 c = simp (head, head-formed, le-ltb _ _ (c .before .before .before .before .before .before .before .before .before .before .before .before .before .before .if1 .left), le-leb _ _ (c .before .before .before .before .before .before .before .before .before .before .before .before .before .if2 .left), eq-eqb _ _ (rw (c .before .before .before .before .before .before .before .before .before .before .before .before .two-bytes .ensures .0) at (c .before .before .before .before .before .before .before .before .before .before .before .if3 .left)), eq-eqb _ _ (rw (c .before .before .before .before .before .before .before .before .before .before .two-bytes2 .ensures .0) at (c .before .before .before .before .before .before .before .before .before .if4 .left)), le-leb _ _ (c .before .before .before .before .before .before .before .if5 .left), ← c .before .before .before .before .meant-standard .ensures, c .before .before .found .given .1, c .four-bytes .ensures .0, head-with)
+returns-7 c = simp (head, head-formed, le-ltb _ _ (c .before .before .before .before .before .before .before .before .before .before .before .before .before .before .before .before .if1 .left), le-leb _ _ (c .before .before .before .before .before .before .before .before .before .before .before .before .before .before .before .if2 .left), eq-eqb _ _ (rw (c .before .before .before .before .before .before .before .before .before .before .before .before .before .before .two-bytes .ensures .0) at (c .before .before .before .before .before .before .before .before .before .before .before .before .before .if3 .left)), eq-eqb _ _ (rw (c .before .before .before .before .before .before .before .before .before .before .before .before .two-bytes2 .ensures .0) at (c .before .before .before .before .before .before .before .before .before .before .if4 .left)), le-leb _ _ (c .before .before .before .before .before .before .before .if5 .left), ← c .before .before .before .before .meant-standard .ensures, c .before .before .found .given .1, c .four-bytes .ensures .0, head-with)
 
 pub read-head-spec : {M : Type 1} → statement M
 read-head-spec =
     tie.close
     (tie.spec
+    cast-if1
     returns
     returns-2
     two-bytes-requires
