@@ -8,14 +8,14 @@ use crate::scan::take;
 use rows::answer::NO_TOKEN;
 use rows::answer::TypeNameError;
 use rows::kinds::NO_TOKEN_KIND;
-ghost use Prim.Native.Nat.{_<_, _≤_};
+ghost use Prim.Native.Nat.{_<_, _≤_, _^_};
 ghost use lib.ListN.{length};
 ghost use Rattle.prescan.specs.Prescan.{prescan};
 ghost use Rattle.prescan.specs.Prescanned.{Says};
 
 // Refusals 10 to 18. `stack` is lent for the openers' token numbers; what it holds in the end is free.
 pub fn prescan_row(language: u8, kinds: &[u8], stack: &mut [u32]) -> Prescanned
-    requires { ⌜ (length (now kinds) ≤ length (now stack)) × (length (now kinds) < 4294967296) ⌝ }
+    requires { ⌜ (length (now kinds) ≤ length (now stack)) × (length (now kinds) < 2 ^ 32) ⌝ }
     ensures { λ r. ⌜ Says r (prescan language (now (kinds .entry))) ⌝ }
 {
     if kinds.len() == 0 {

@@ -16,7 +16,7 @@ use rows::kinds::RIGHT_PAREN;
 use rows::kinds::SHIFT_RIGHT;
 use rows::languages::CPP;
 ghost use mathlib.Core.Path.{_≡_};
-ghost use Prim.Native.Nat.{_+_, _<_, _≤_};
+ghost use Prim.Native.Nat.{_+_, _<_, _≤_, _^_};
 ghost use lib.ListN.{getD, length, set};
 ghost use mathlib.Core.List.{[]};
 ghost use Rattle.prescan.specs.Matcher.{same};
@@ -133,7 +133,7 @@ fn outside(language: u8, kind: u8, at: usize, s: ScanState) -> ScanStep
 
 // An opener goes on the stack.
 fn push(stack: &mut [u32], s: ScanState, kind: u8, at: usize) -> ScanState
-    requires { ⌜ (s .depth < length (now stack)) × (at < 4294967296) ⌝ }
+    requires { ⌜ (s .depth < length (now stack)) × (at < 2 ^ 32) ⌝ }
     ensures { λ r. ⌜ (now (stack .exit) ≡ set (now (stack .entry)) (s .depth) at) × Past s kind (s .depth + 1) (s .angles) (s .first) r ⌝ }
 {
     let depth = s.depth;

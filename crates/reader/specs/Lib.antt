@@ -3,6 +3,7 @@ pub mod Reading
 pub mod Tables
 pub mod Written
 pub mod Standing
+pub mod Allowance
 pub mod ReaderSays
 pub mod Laws
 pub mod Examples

@@ -1,7 +1,8 @@
 -- Trees and their node records: document 01, "Node record".
 -- Assumes nothing.
-use Prim.Native.Nat.{ℕ, suc, _+_, _*_}
+use Prim.Native.Nat.{ℕ, suc, _+_, _*_, _≤_}
 use mathlib.Core.List.{List, [], _∷_, _++_}
+use lib.ListN.{length, getD}
 
 -- The kinds of node, by document 01's letters: token T, parentheses G, brackets B, list L, argument A.
 pub data NodeKind : Type 0 where
@@ -38,3 +39,25 @@ unfoldable pub records : Nodes → List ℕ
 unfolding count number
 records none = []
 records (node k i b x) = number k ∷ i ∷ suc (count b) ∷ records b ++ records x
+
+-- ---- the numbers of node number n in a list of node records
+
+-- "Three 32-bit numbers: kind .."
+abbrev pub kind-of : (records : List ℕ) (n : ℕ) → ℕ
+kind-of records n = getD records (node-width * n) 0
+
+-- ".. token number .."
+abbrev pub token-of : (records : List ℕ) (n : ℕ) → ℕ
+token-of records n = getD records (node-width * n + 1) 0
+
+-- ".. **extent** (nodes in its subtree, itself included)."
+abbrev pub extent-of : (records : List ℕ) (n : ℕ) → ℕ
+extent-of records n = getD records (node-width * n + 2) 0
+
+-- A bound of token and node numbers that leaves room for sums of them: a row has at most 1,024 tokens, and a tree two nodes a token.
+abbrev pub numbers-bound : ℕ
+numbers-bound = 65536
+
+-- Its record is within the list.
+abbrev pub Recorded : (records : List ℕ) (n : ℕ) → Type 0
+Recorded records n = node-width * suc n ≤ length records

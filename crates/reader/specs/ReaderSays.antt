@@ -14,7 +14,7 @@ use Rattle.rows.specs.declared.answer.TypeNameError.{TypeNameError}
 use Rattle.rows.specs.declared.answer.TypeNameError.the-variants.{UnexpectedTokenAfterTypeName}
 use Rattle.reader.specs.Nodes.{NodeKind, T-node, number, Nodes, none, node, count, node-width, numbers-per-token, records}
 use Rattle.reader.specs.Reading.{Level, Fault, refusal, Got, got, bad, starts, kindAt, MAX-NESTING-DEPTH, down, go, read}
-use Rattle.reader.specs.Laws.Allowance.{Limited, done, denied, spent, steps, limited, behind}
+use Rattle.reader.specs.Allowance.{Limited, done, denied, spent, steps, limited, behind}
 use Rattle.reader.specs.declared.parser.TypeSyntaxParser.{TypeSyntaxParser}
 use Rattle.reader.specs.declared.parser.Stop.{Stop}
 use Rattle.reader.specs.declared.parser.Stop.the-variants as Stop

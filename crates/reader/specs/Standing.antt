@@ -1,14 +1,13 @@
 -- How deep a tree nests, and where its nodes stand: document 01, "Node record", its last sentences, and demand 3.
 -- Assumes nothing.
-use Prim.Native.Nat.{ℕ, suc, _+_, _*_, _<_, max}
+use Prim.Native.Nat.{ℕ, suc, _+_, _<_, max}
 use mathlib.Core.Path.{_≡_}
 use mathlib.Core.Logic.{_⊎_}
 use mathlib.Core.Bool.{Bool, true, false}
 use mathlib.Core.List.{List, [], _∷_, _++_}
-use lib.ListN.{getD}
 use lib.Dec.{eqb}
 use Rattle.rows.specs.Notation.{if_then_else_}
-use Rattle.reader.specs.Nodes.{NodeKind, T-node, G-node, B-node, L-node, A-node, Nodes, none, node, number, node-width}
+use Rattle.reader.specs.Nodes.{NodeKind, T-node, G-node, B-node, L-node, A-node, Nodes, none, node, number, kind-of, extent-of}
 
 -- "Level and nesting count G, B and L, not A."
 unfoldable pub deeper : NodeKind → ℕ → ℕ
@@ -40,18 +39,6 @@ numbers-of k at (k′ ∷ ks) =
     if eqb k k′ then at ∷ rest else rest
 
 -- ---- of node number n in a list of node records
-
--- "Three 32-bit numbers: kind .."
-unfoldable pub kind-of : (records : List ℕ) (n : ℕ) → ℕ
-kind-of records n = getD records (node-width * n) 0
-
--- ".. token number .."
-unfoldable pub token-of : (records : List ℕ) (n : ℕ) → ℕ
-token-of records n = getD records (node-width * n + 1) 0
-
--- ".. **extent** (nodes in its subtree, itself included)."
-unfoldable pub extent-of : (records : List ℕ) (n : ℕ) → ℕ
-extent-of records n = getD records (node-width * n + 2) 0
 
 -- Node m stands **below** node n: "Below a node stands its subtree without the node itself."
 abbrev pub Below : (records : List ℕ) (n m : ℕ) → Type 0

@@ -28,7 +28,7 @@ ghost use mathlib.Core.List.{_∷_};
 ghost use Prim.Native.Nat.{_+_, _*_, _≤_, _<_};
 ghost use lib.ListN.{drop, length};
 ghost use Rattle.rows.specs.Format.{most-tokens};
-ghost use Rattle.reader.specs.Nodes.{node-width, numbers-per-token};
+ghost use Rattle.reader.specs.Nodes.{node-width, numbers-per-token, numbers-bound};
 ghost use Rattle.reader.specs.Reading.{list, reading};
 ghost use Rattle.reader.specs.Tables.{level-of};
 ghost use Rattle.reader.specs.declared.parser.Reading.the-variants.{Done};
@@ -56,7 +56,7 @@ impl TypeSyntaxParser {
 
     // One token further, with so many steps left.
     fn past(self, left: u32) -> Self
-        requires { ⌜ self .cursor ≤ 65536 ⌝ }
+        requires { ⌜ self .cursor ≤ numbers-bound ⌝ }
         ensures { λ r. ⌜ r ≡ past self left ⌝ }
     {
         Self {
@@ -108,7 +108,7 @@ fn put_above(
     next: TypeSyntaxParser,
     below: usize,
 ) -> Reading
-    requires { ⌜ (node-width ≤ length (now tree)) × (token < 65536) × (below < 65535) ⌝ }
+    requires { ⌜ (node-width ≤ length (now tree)) × (token < numbers-bound) × (below + 1 < numbers-bound) ⌝ }
     ensures read { λ r. ⌜ r ≡ Done next (below + 1) ⌝ }
     ensures tree { λ _. ⌜ now (tree .exit) ≡ kind ∷ token ∷ (below + 1) ∷ drop node-width (now (tree .entry)) ⌝ }
 {
@@ -118,7 +118,7 @@ fn put_above(
 
 // A token that is a node by itself.
 fn parse_token(tree: &mut [u32], parser: TypeSyntaxParser) -> Reading
-    requires { ⌜ (node-width ≤ length (now tree)) × (parser .cursor < 65536) ⌝ }
+    requires { ⌜ (node-width ≤ length (now tree)) × (parser .cursor < numbers-bound) ⌝ }
     ensures { λ r. ⌜ TokenAnswers parser r (now (tree .entry)) (now (tree .exit)) ⌝ }
 {
     if parser.left == 0 {
@@ -260,7 +260,7 @@ fn listing_of(read: Reading) -> Listing
 
 // The list is closed: by half a `>>`, or by the token here.
 fn take_angle_close(kinds: &[u8], parser: TypeSyntaxParser) -> TypeSyntaxParser
-    requires { ⌜ parser .cursor ≤ 65536 ⌝ }
+    requires { ⌜ parser .cursor ≤ numbers-bound ⌝ }
     ensures at { λ r. ⌜ r .cursor ≡ closed-at (parser .cursor) (parser .«pending_greater») ⌝ }
     ensures half { λ r. ⌜ r .«pending_greater» ≡ closed-half (now (kinds .entry)) (parser .cursor) (parser .«pending_greater») ⌝ }
     ensures left { λ r. ⌜ r .left ≡ parser .left ⌝ }

@@ -19,7 +19,7 @@ ghost use mathlib.Core.Bool.{_||_};
 ghost use Prim.Native.Nat.{_≤_};
 ghost use lib.Dec.{eqb};
 ghost use Rattle.rows.specs.Kinds.{Comma};
-ghost use Rattle.reader.specs.Nodes.{number};
+ghost use Rattle.reader.specs.Nodes.{number, numbers-bound};
 ghost use Rattle.reader.specs.Reading.{closes, kindAt, starts, top};
 ghost use Rattle.reader.specs.Tables.{Plain, Plans, PlansGroup, level-of, node-of, started};
 
@@ -100,7 +100,7 @@ fn row_step(kind: u8, at: usize) -> GroupStep
 
 // What is to be done at a token of a group: `close` closes it, `other` closes the other kind of group.
 fn bracket_step(close: u8, other: u8, kind: u8, at: usize) -> GroupStep
-    requires { ⌜ at ≤ 65536 ⌝ }
+    requires { ⌜ at ≤ numbers-bound ⌝ }
     ensures { λ r. ⌜ PlansGroup r close other kind at ⌝ }
 {
     if kind == NO_TOKEN_KIND {
@@ -117,7 +117,7 @@ fn bracket_step(close: u8, other: u8, kind: u8, at: usize) -> GroupStep
 
 // What is to be done at a token of the row, or of the group that is open.
 pub fn group_step(end: Open, kind: u8, at: usize) -> GroupStep
-    requires { ⌜ at ≤ 65536 ⌝ }
+    requires { ⌜ at ≤ numbers-bound ⌝ }
     ensures { λ r. ⌜ Plans r (level-of end) kind at ⌝ }
 {
     let Open::Opened(delimiter) = end else {

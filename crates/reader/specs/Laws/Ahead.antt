@@ -12,7 +12,8 @@ use Rattle.rows.specs.declared.answer.TypeNameError.the-variants.{NestingLimitE
 use Rattle.reader.specs.Nodes.{NodeKind, Nodes, none, node}
 use Rattle.reader.specs.Reading.{Level, Fault, refusal, Next, ends, stops, next, kindAt, MAX-NESTING-DEPTH, down, go, turn, read}
 use Rattle.reader.specs.Laws.Loops.{_then_, then-assoc}
-use Rattle.reader.specs.Laws.Allowance.{Limited, done, denied, spent, limited, behind, limited-ends, limited-stops}
+use Rattle.reader.specs.Allowance.{Limited, done, denied, spent, limited, behind}
+use Rattle.reader.specs.Laws.Allowance.{limited-ends, limited-stops}
 use Rattle.reader.specs.Laws.Fixed.{fixed}
 
 unfoldable pub ahead : Nodes → Limited → Limited

@@ -12,28 +12,9 @@ use borrow.Author.Tests.{le-leb, lt-leb}
 use lib.Dec.{leb, ltb, eqb, leb·suc-suc, leb·zero}
 use Rattle.rows.specs.Notation.{if_then_else_}
 use Rattle.rows.specs.Kinds.{Comma, ShiftRight}
+use Rattle.reader.specs.Allowance.{Limited, done, denied, spent, steps, settled, limited, behind}
 use Rattle.reader.specs.Nodes.{NodeKind, T-node, L-node, A-node, Nodes, none, node}
 use Rattle.reader.specs.Reading.{Level, list, argument, Fault, no-list, Next, ends, stops, token, group, angle, first, Got, got, bad, case, before, kindAt, MAX-NESTING-DEPTH, Reader, down, argued, go}
-
--- What comes of a reading when so many steps are left: the nodes, where to go on, whether half a `>>` is left, and the steps left; a fault, and the
--- steps left; or refusal 25.
-pub data Limited : Type 0 where
-  done : Nodes → (at : ℕ) → (half : Bool) → (left : ℕ) → Limited
-  denied : Fault → (left : ℕ) → Limited
-  spent : Limited
-
-unfoldable pub steps : Got → ℕ
-steps (got x at half m) = m
-steps (bad e m) = m
-
--- Where the steps left are enough.
-unfoldable pub settled : (left : ℕ) → Got → Limited
-settled left (got x at half m) = done x at half (left - m)
-settled left (bad e m) = denied e (left - m)
-
-unfoldable pub limited : (left : ℕ) → Got → Limited
-unfolding steps settled
-limited left g = if leb (steps g) left then settled left g else spent
 
 -- The same comes of a reading under every allowance that is not below its steps,
 pub allowed : (left : ℕ) (g : Got) → steps g ≤ left → limited left g ≡ settled left g
@@ -46,12 +27,6 @@ unfolding limited
 passed left g h = rw (lt-leb (steps g) left h)
 
 -- ---- a node before the rest of its level
-
--- A node before what came of the rest, as `before` has it.
-unfoldable pub behind : NodeKind → ℕ → Nodes → Limited → Limited
-behind k i b (done x at half left) = done (node k i b x) at half left
-behind k i b (denied e left) = denied e left
-behind k i b spent = spent
 
 steps-before : (k : NodeKind) (i : ℕ) (b : Nodes) (m : ℕ) (g : Got) → steps (before k i b m g) ≡ m + steps g
 unfolding steps before

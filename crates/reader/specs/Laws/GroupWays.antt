@@ -20,7 +20,7 @@ use Rattle.reader.specs.ReaderSays.{Ready, Told, Denied, GroupSays, Grou
 use Rattle.reader.specs.Laws.Derived.{Read, Allowed, next-allowed}
 use Rattle.reader.specs.Laws.Bounds.{forwards, within}
 use Rattle.reader.specs.Laws.Buffer.{lent, given-back, after-front, holds}
-use Rattle.reader.specs.Laws.Allowance.{Limited, denied, spent}
+use Rattle.reader.specs.Allowance.{Limited, denied, spent}
 use Rattle.reader.specs.Laws.Ahead.{down-read, turned-ends, turned-stops}
 use Rattle.reader.specs.Laws.Reached.{Way, Reached, begun, reached-done, reached-denied, node-stop, node-more}
 use Rattle.reader.specs.declared.tables.GroupStep.{GroupStep}

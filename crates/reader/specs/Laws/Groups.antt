@@ -10,7 +10,8 @@ use lib.Dec.{T}
 use Rattle.prescan.specs.Matcher.{Pair, Paired}
 use Rattle.reader.specs.Nodes.{NodeKind, T-node, G-node, B-node, L-node, A-node, number, Nodes, count, records}
 use Rattle.reader.specs.Reading.{got, reading}
-use Rattle.reader.specs.Standing.{kind-of, token-of, Below, IsGroup}
+use Rattle.reader.specs.Standing.{Below, IsGroup}
+use Rattle.reader.specs.Nodes.{kind-of, token-of}
 use Rattle.reader.specs.Laws.Tokens.{KindsKnown}
 use Rattle.reader.specs.Laws.NodeNumbers.{in-count, says, numbered, in-extent}
 use Rattle.reader.specs.Laws.Brackets.{bracket, Partner, partnered}

@@ -17,7 +17,8 @@ use Rattle.reader.specs.ReaderSays.{Ready, Told, Denied, Found, NodeAnsw
 use Rattle.reader.specs.Laws.Tokens.{inside}
 use Rattle.reader.specs.Laws.Loops.{_then_, then-count}
 use Rattle.reader.specs.Laws.Buffer.{lent, given-back, after, front, holds, argument-written}
-use Rattle.reader.specs.Laws.Allowance.{Limited, done, denied, limited, behind, on-done, argued-left, limited-first}
+use Rattle.reader.specs.Allowance.{Limited, done, denied, limited, behind}
+use Rattle.reader.specs.Laws.Allowance.{on-done, argued-left, limited-first}
 use Rattle.reader.specs.Laws.Ahead.{ahead, ahead-behind, ahead-done, down-deep, down-read, turned, turned-ends, turned-stops}
 use Rattle.reader.specs.Laws.GroupWays.{node-stopped}
 use Rattle.reader.specs.Laws.Reached.{Way, Reached, begun, reached-done, reached-denied, reached-spent, node-stop, node-more}

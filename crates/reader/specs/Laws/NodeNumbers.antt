@@ -8,7 +8,7 @@ use native.Mathlib.Decide.{decLe}
 use lib.ListN.{length, getD, length-append}
 use lib.Seq.{getD-append-add}
 use Rattle.reader.specs.Nodes.{NodeKind, Nodes, none, node, number, count, node-width, records}
-use Rattle.reader.specs.Standing.{kind-of, token-of, extent-of}
+use Rattle.reader.specs.Nodes.{kind-of, token-of, extent-of}
 
 -- A node of this kind, with this token and these nodes below it, stands in the tree.
 pub data In (k : NodeKind) (i : ℕ) (b : Nodes) : Nodes → Type 0 where

@@ -17,7 +17,8 @@ use Rattle.reader.specs.Nodes.{NodeKind, T-node, L-node, Nodes, none, nu
 use Rattle.reader.specs.Reading.{Level, list, Fault, Next, token, starts, kindAt, MAX-NESTING-DEPTH, down, go, read}
 use Rattle.reader.specs.Tables.{level-of, node-of, started}
 use Rattle.reader.specs.ReaderSays.{Told, Denied, GroupAnswers, Found, NodeSays, NodeAnswers, TokenSays, TokenAnswers, ListSays, ListAnswers, level-due, node-due, past}
-use Rattle.reader.specs.Laws.Allowance.{Limited, done, denied, spent, limited, behind, on-done, Costs, limited-token, limited-group, limited-angle, none-left}
+use Rattle.reader.specs.Allowance.{Limited, done, denied, spent, limited, behind}
+use Rattle.reader.specs.Laws.Allowance.{on-done, Costs, limited-token, limited-group, limited-angle, none-left}
 use Rattle.reader.specs.Laws.Buffer.{node-written, token-written}
 use Rattle.reader.specs.Laws.GroupWays.{node-stops-so, group-stopped}
 use Rattle.reader.specs.declared.tables.Start.{Start}

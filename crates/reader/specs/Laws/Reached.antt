@@ -12,7 +12,7 @@ use Rattle.reader.specs.Nodes.{Nodes, none, node, count, node-width, rec
 use Rattle.reader.specs.Reading.{Level, Fault, refusal, starts, next, kindAt}
 use Rattle.reader.specs.ReaderSays.{Denied, Found, node-due, rest-due}
 use Rattle.reader.specs.Laws.Loops.{_then_, then-count, then-records}
-use Rattle.reader.specs.Laws.Allowance.{Limited, done, denied, spent}
+use Rattle.reader.specs.Allowance.{Limited, done, denied, spent}
 use Rattle.reader.specs.Laws.Ahead.{ahead, then-none, ahead-none, ahead-behind, ahead-done, ahead-denied, ahead-spent, turned}
 use Rattle.reader.specs.declared.parser.TypeSyntaxParser.{TypeSyntaxParser}
 use Rattle.reader.specs.declared.parser.Stop.{Stop}

@@ -13,7 +13,8 @@ use Rattle.rows.specs.declared.answer.TypeNameError.the-variants.{UnexpectedTok
 use Rattle.reader.specs.Nodes.{Nodes}
 use Rattle.reader.specs.Reading.{top, Fault, refusal, Got, got, bad, reading}
 use Rattle.reader.specs.ReaderSays.{Told, TreeRead, LeftOver, level-due}
-use Rattle.reader.specs.Laws.Allowance.{Limited, done, denied, spent, steps, settled, limited, allowed, passed}
+use Rattle.reader.specs.Allowance.{Limited, done, denied, spent, steps, settled, limited}
+use Rattle.reader.specs.Laws.Allowance.{allowed, passed}
 use Rattle.reader.specs.Laws.Ahead.{down-read}
 use Rattle.reader.specs.declared.parser.TypeSyntaxParser.{TypeSyntaxParser}
 
