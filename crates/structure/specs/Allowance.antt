@@ -2,13 +2,12 @@
 -- Assumes nothing.
 use Prim.Native.Nat.{ℕ, _-_}
 use mathlib.Core.Bool.{Bool, true, false}
-use lib.Dec.{leb}
-use Rattle.rows.specs.Notation.{if_then_else_}
+use Rattle.rows.specs.Allowance.{within}
 use Rattle.structure.specs.Said.{Said, holds, fails}
 use Rattle.structure.specs.declared.moves.Verdict.{Verdict}
 use Rattle.structure.specs.declared.moves.Verdict.the-variants.{Holds, Fails, Spent}
 
 -- What comes of a check when so many steps are left: "25 step count would pass the allowance, and only then".
 unfoldable pub limited : (left : ℕ) → Said → Verdict
-limited left (holds m) = if leb m left then Holds (left - m) else Spent
-limited left (fails m) = if leb m left then Fails (left - m) else Spent
+limited left (holds m) = within left m (Holds (left - m)) Spent
+limited left (fails m) = within left m (Fails (left - m)) Spent

@@ -28,6 +28,7 @@ ghost use Rattle.type_nodes.specs.Sets.{prefix-operators};
 ghost use Rattle.type_nodes.specs.Moves.{some-expression, optional-expression};
 ghost use Rattle.structure.specs.Expressions.{expression-node, expression-end};
 ghost use Rattle.structure.specs.Represented.{test-of, expression-state-of, Moves};
+ghost use Rattle.reader.specs.Nodes.{numbers-bound};
 
 pub fn expression_end(st: ExpressionLoop) -> bool
     ensures { λ r. ⌜ r ≡ expression-end (expression-state-of st) ⌝ }
@@ -61,7 +62,7 @@ fn less_one(depth: usize) -> usize
 }
 
 pub fn expression_node(language: u8, shape: u8, st: ExpressionLoop) -> ExpressionMove
-    requires { ⌜ st .depth < 65536 ⌝ }
+    requires { ⌜ st .depth < numbers-bound ⌝ }
     ensures { λ r. ⌜ Moves (st .depth + 1) r (expression-node language shape (expression-state-of st)) ⌝ }
 {
     let operand = st.operand;

@@ -5,7 +5,7 @@ use mathlib.Core.Bool.{Bool}
 use mathlib.Core.List.{List}
 use lib.ListN.{length, getD}
 use Rattle.type_nodes.specs.Moves.{Move, stop, on, on-if}
-use Rattle.type_nodes.specs.Specifiers.{Specifiers, specifiers, once-more, no-builtin-word}
+use Rattle.type_nodes.specs.Specifiers.{Specifiers, specifiers, once-more, no-builtin-word, counted-words}
 use Rattle.type_nodes.specs.declared.specifiers.SpecifierFlags.{SpecifierFlags}
 use Rattle.type_nodes.specs.declared.specifiers.SpecifierMove.{SpecifierMove}
 use Rattle.type_nodes.specs.declared.specifiers.SpecifierMove.the-variants as M
@@ -24,11 +24,11 @@ specifier-move-of seen (M.Count w f) = on (specifiers-of (once-more w seen) f)
 abbrev pub Known : SpecifierMove → Type 0
 Known (M.Stop r) = Unit {0}
 Known (M.On f) = Unit {0}
-Known (M.Count w f) = w < 29
+Known (M.Count w f) = w < counted-words
 
 -- Every word of a list has a count.
 abbrev pub Counted : (words : List ℕ) → Type 0
-Counted words = (i : ℕ) → i < length words → getD words i 0 < 29
+Counted words = (i : ℕ) → i < length words → getD words i 0 < counted-words
 
 -- A move of the specifiers, and what lets the code count.
 pub record SpecifierMoves (seen : List ℕ) (r : SpecifierMove) (m : Move Specifiers) : Type 0 where

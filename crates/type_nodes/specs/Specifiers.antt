@@ -18,9 +18,13 @@ use Rattle.type_nodes.specs.Moves.{Move, stop, on, inside, on-if}
 
 -- ---- `seen`: how often each builtin type word and each qualifier was seen, by word number (`builtin_words` and `qualifiers` in one list)
 
+-- "`HashMap` word counts become an array by word number": builtin type words and qualifiers have the first numbers.
+abbrev pub counted-words : ℕ
+counted-words = suc «_Atomic»
+
 -- `HashMap::new()`. `_Atomic` has the greatest number of these words.
 unfoldable pub none-seen : List ℕ
-none-seen = replicate (suc «_Atomic») 0
+none-seen = replicate counted-words 0
 
 -- `words.get(..)`: how often a word was seen.
 unfoldable pub times : (w : ℕ) (seen : List ℕ) → ℕ

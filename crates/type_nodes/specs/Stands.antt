@@ -5,7 +5,7 @@ use mathlib.Core.Path.{_≡_}
 use mathlib.Core.Bool.{Bool, false}
 use mathlib.Core.List.{List}
 use lib.ListN.{length, getD}
-use Rattle.reader.specs.Nodes.{NodeKind, number, Nodes, none, node, count}
+use Rattle.reader.specs.Nodes.{NodeKind, number, Nodes, none, node, count, node-width, kind-of, token-of, extent-of, numbers-bound}
 use Rattle.type_nodes.specs.Shapes.{empty, shape}
 use Rattle.type_nodes.specs.declared.nodes.Lookup.{Lookup}
 use Rattle.type_nodes.specs.declared.nodes.Lookup.the-variants.{Node, Nothing}
@@ -13,15 +13,15 @@ use Rattle.type_nodes.specs.declared.nodes.Lookup.the-variants.{Node, No
 -- The nodes stand in the records from node `from` up to node `to`, and their tokens in the row.
 pub data Stands (tree kinds : List ℕ) : (from to : ℕ) → Nodes → Type 0 where
   ends : {a e : ℕ} → a ≡ e → Stands tree kinds a e none
-  here : {a e : ℕ} {k : NodeKind} {i : ℕ} {b x : Nodes} → getD tree (3 * a) 0 ≡ number k → getD tree (3 * a + 1) 0 ≡ i → getD tree (3 * a + 2) 0 ≡ suc (count b)
+  here : {a e : ℕ} {k : NodeKind} {i : ℕ} {b x : Nodes} → kind-of tree a ≡ number k → token-of tree a ≡ i → extent-of tree a ≡ suc (count b)
       → i < length kinds → Stands tree kinds (suc a) (suc (a + count b)) b → Stands tree kinds (suc (a + count b)) e x → Stands tree kinds a e (node k i b x)
 
 -- Some nodes stand there, inside the tree: what a function requires of a range.
 pub record Formed (tree kinds : List ℕ) (from to : ℕ) : Type 0 where
   pub nodes : Nodes
   pub stands : Stands tree kinds from to nodes
-  pub room : 3 * to ≤ length tree
-  pub few : to ≤ 65536
+  pub room : node-width * to ≤ length tree
+  pub few : to ≤ numbers-bound
 
 -- What a function says of the nodes that stand there.
 abbrev pub Of : (tree kinds : List ℕ) (from to : ℕ) → (Nodes → Type 0) → Type 0

@@ -25,8 +25,11 @@ ghost use Prim.Native.Nat.{_<_};
 ghost use lib.Dec.{eqb};
 ghost use Rattle.rows.specs.Notation.{if_then_else_};
 ghost use Rattle.rows.specs.Words.{long};
-ghost use Rattle.type_nodes.specs.Specifiers.{times, has, how-many, builtin-words, too-often, validate-c-bit-int-sign, validate-c-builtin-combination};
+ghost use Rattle.type_nodes.specs.Specifiers.{times, has, how-many, builtin-words, too-often, validate-c-bit-int-sign, validate-c-builtin-combination, counted-words};
 ghost use Rattle.type_nodes.specs.RepresentedSpecifiers.{Counted};
+
+// Builtin type words and qualifiers, and no other words, have numbers below this.
+pub const COUNTED_WORDS: usize = 29;
 
 const BUILTIN_TYPE_WORDS: [u8; 20] = [
     VOID,
@@ -68,22 +71,22 @@ const SCALAR_BASES: [u8; 14] = [
     DECIMAL128,
 ];
 
-fn times(seen: &[usize; 29], word: u8) -> usize
-    requires { ⌜ word < 29 ⌝ }
+fn times(seen: &[usize; COUNTED_WORDS], word: u8) -> usize
+    requires { ⌜ word < counted-words ⌝ }
     ensures { λ r. ⌜ r ≡ times word (now (seen .entry)) ⌝ }
 {
     seen[word as usize]
 }
 
-pub fn has(seen: &[usize; 29], word: u8) -> bool
-    requires { ⌜ word < 29 ⌝ }
+pub fn has(seen: &[usize; COUNTED_WORDS], word: u8) -> bool
+    requires { ⌜ word < counted-words ⌝ }
     ensures { λ r. ⌜ r ≡ has word (now (seen .entry)) ⌝ }
 {
     0 < times(seen, word)
 }
 
 // How many of these words were seen.
-fn how_many(seen: &[usize; 29], words: &[u8]) -> usize
+fn how_many(seen: &[usize; COUNTED_WORDS], words: &[u8]) -> usize
     requires { ⌜ Counted (now words) ⌝ }
     ensures { λ r. ⌜ r ≡ how-many (now (words .entry)) (now (seen .entry)) ⌝ }
 {
@@ -110,7 +113,7 @@ fn most(word: u8) -> usize
     1
 }
 
-fn too_often(seen: &[usize; 29], words: &[u8]) -> bool
+fn too_often(seen: &[usize; COUNTED_WORDS], words: &[u8]) -> bool
     requires { ⌜ Counted (now words) ⌝ }
     ensures { λ r. ⌜ r ≡ too-often (now (words .entry)) (now (seen .entry)) ⌝ }
 {
@@ -125,21 +128,21 @@ fn too_often(seen: &[usize; 29], words: &[u8]) -> bool
 }
 
 // `builtin_words.len()`
-pub fn builtin_words(seen: &[usize; 29]) -> usize
+pub fn builtin_words(seen: &[usize; COUNTED_WORDS]) -> usize
     ensures { λ r. ⌜ r ≡ builtin-words (now (seen .entry)) ⌝ }
 {
     let words = BUILTIN_TYPE_WORDS;
     how_many(seen, &words)
 }
 
-pub fn validate_c_bit_int_sign(seen: &[usize; 29]) -> bool
+pub fn validate_c_bit_int_sign(seen: &[usize; COUNTED_WORDS]) -> bool
     ensures { λ r. ⌜ r ≡ validate-c-bit-int-sign (now (seen .entry)) ⌝ }
 {
     let words = builtin_words(seen);
     (words == 0) | ((words == 1) & ((times(seen, SIGNED) == 1) | (times(seen, UNSIGNED) == 1)))
 }
 
-pub fn validate_c_builtin_combination(seen: &[usize; 29]) -> bool
+pub fn validate_c_builtin_combination(seen: &[usize; COUNTED_WORDS]) -> bool
     ensures { λ r. ⌜ r ≡ validate-c-builtin-combination (now (seen .entry)) ⌝ }
 {
     let words = BUILTIN_TYPE_WORDS;

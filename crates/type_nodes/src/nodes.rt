@@ -2,8 +2,10 @@
 
 use crate::sets::is_declarator_start;
 use crate::shapes::NO_NODE;
-use reader::nodes::NODE_WIDTH;
 use reader::nodes::TOKEN_NODE;
+use reader::nodes::node_extent;
+use reader::nodes::node_kind;
+use reader::nodes::node_token;
 use rows::kinds::DOT;
 use rows::kinds::IDENTIFIER;
 use rows::kinds::SCOPE;
@@ -12,7 +14,7 @@ use rows::word_numbers::NO_WORD;
 ghost use mathlib.Core.Path.{_≡_};
 ghost use Prim.Native.Nat.{_+_, _<_, suc};
 ghost use Rattle.reader.specs.Nodes.{count};
-ghost use Rattle.type_nodes.specs.Shapes.{shape, node-identifier, is-single-token, is-ellipsis};
+ghost use Rattle.type_nodes.specs.Shapes.{NoNode, shape, node-identifier, is-single-token, is-ellipsis};
 ghost use Rattle.type_nodes.specs.AbstractDeclarators.{any, looks-like-abstract-declarator};
 ghost use Rattle.type_nodes.specs.Stands.{Formed, Ready, Of, Finds, below};
 
@@ -26,12 +28,6 @@ pub enum Lookup {
     Nothing,
 }
 
-fn wide(number: u32) -> usize
-    ensures { λ r. ⌜ r ≡ number ⌝ }
-{
-    number as usize
-}
-
 // The shape of the node at a place of a level.
 pub fn shape_at(tree: &[u32], kinds: &[u8], at: usize, to: usize) -> u8
     requires { ⌜ Formed (now tree) (now kinds) at to ⌝ }
@@ -40,9 +36,9 @@ pub fn shape_at(tree: &[u32], kinds: &[u8], at: usize, to: usize) -> u8
     if at >= to {
         return NO_NODE;
     }
-    let kind = tree[NODE_WIDTH * at];
+    let kind = node_kind(tree, at);
     if kind == TOKEN_NODE {
-        let token = wide(tree[NODE_WIDTH * at + 1]);
+        let token = node_token(tree, at);
         return kinds[token];
     }
     NO_NODE + kind as u8
@@ -53,7 +49,7 @@ pub fn node_end(tree: &[u32], kinds: &[u8], at: usize, to: usize) -> usize
     requires { ⌜ (at < to) × Formed (now tree) (now kinds) at to ⌝ }
     ensures { λ r. ⌜ Of (now (tree .entry)) (now (kinds .entry)) at to (λ x. r ≡ suc (at + count (below x))) ⌝ }
 {
-    at + wide(tree[NODE_WIDTH * at + 2])
+    at + node_extent(tree, at)
 }
 
 pub fn node_at(tree: &[u32], kinds: &[u8], at: usize, to: usize) -> Lookup
@@ -64,7 +60,7 @@ pub fn node_at(tree: &[u32], kinds: &[u8], at: usize, to: usize) -> Lookup
         return Lookup::Nothing;
     }
     let shape = shape_at(tree, kinds, at, to);
-    let token = wide(tree[NODE_WIDTH * at + 1]);
+    let token = node_token(tree, at);
     let next = node_end(tree, kinds, at, to);
     Lookup::Node { shape, token, next }
 }
@@ -90,7 +86,7 @@ pub fn node_identifier(tree: &[u32], kinds: &[u8], words: &[u8], at: usize, to: 
 }
 
 pub fn is_single_token(tree: &[u32], kinds: &[u8], kind: u8, from: usize, to: usize) -> bool
-    requires { ⌜ (kind < 58) × Formed (now tree) (now kinds) from to ⌝ }
+    requires { ⌜ (kind < NoNode) × Formed (now tree) (now kinds) from to ⌝ }
     ensures { λ r. ⌜ Of (now (tree .entry)) (now (kinds .entry)) from to (λ x. r ≡ is-single-token (now (kinds .entry)) kind x) ⌝ }
 {
     let found = node_at(tree, kinds, from, to);

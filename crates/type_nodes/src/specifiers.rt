@@ -3,6 +3,7 @@
 // often each builtin type word and each qualifier was seen, by word number; `none`: no builtin type word was, kept beside the counts so that a name
 // need not look through them.
 
+use crate::combination::COUNTED_WORDS;
 use crate::combination::has;
 use crate::combination::validate_c_bit_int_sign;
 use crate::combination::validate_c_builtin_combination;
@@ -31,7 +32,7 @@ ghost use lib.Dec.{eqb};
 ghost use Rattle.rows.specs.Notation.{if_then_else_};
 ghost use Rattle.rows.specs.Words.{exactly, «_BitInt»};
 ghost use Rattle.type_nodes.specs.Shapes.{exact-word};
-ghost use Rattle.type_nodes.specs.Specifiers.{once-more, no-builtin-word, validate-c-bit-int-sign, specifiers-end, parenthesis-word, qualifier-word, elaborated-word, builtin-word, name-word, specifier-scope, specifier-list, specifier-node, validate-c-decl-specifiers};
+ghost use Rattle.type_nodes.specs.Specifiers.{once-more, no-builtin-word, validate-c-bit-int-sign, specifiers-end, parenthesis-word, qualifier-word, elaborated-word, builtin-word, name-word, specifier-scope, specifier-list, specifier-node, validate-c-decl-specifiers, counted-words};
 ghost use Rattle.type_nodes.specs.Stands.{Ready, Of};
 ghost use Rattle.type_nodes.specs.RepresentedSpecifiers.{specifiers-of, SpecifierMoves, Always, Goes, Serves};
 
@@ -66,7 +67,7 @@ pub fn exact_word(tree: &[u32], kinds: &[u8], words: &[u8], at: usize, to: usize
 }
 
 // Whether the builtin type words may stand before such a word and its parentheses.
-fn builtin_words_are_valid(word: u8, seen: &[usize; 29], none: bool) -> bool
+fn builtin_words_are_valid(word: u8, seen: &[usize; COUNTED_WORDS], none: bool) -> bool
     requires { ⌜ none ≡ no-builtin-word (now seen) ⌝ }
     ensures { λ r. ⌜ r ≡ (if eqb word «_BitInt» then validate-c-bit-int-sign (now (seen .entry)) else no-builtin-word (now (seen .entry))) ⌝ }
 {
@@ -86,7 +87,7 @@ fn on_if(ok: bool, flags: SpecifierFlags) -> SpecifierMove
 }
 
 fn count_if(ok: bool, word: u8, flags: SpecifierFlags) -> SpecifierMove
-    requires { ⌜ word < 29 ⌝ }
+    requires { ⌜ word < counted-words ⌝ }
     ensures { λ r. ⌜ Goes r ok (λ seen. specifiers-of (once-more word seen) flags) ⌝ }
 {
     if ok {
@@ -95,7 +96,7 @@ fn count_if(ok: bool, word: u8, flags: SpecifierFlags) -> SpecifierMove
     SpecifierMove::Stop(false)
 }
 
-fn specifiers_end(seen: &[usize; 29], none: bool, flags: SpecifierFlags) -> bool
+fn specifiers_end(seen: &[usize; COUNTED_WORDS], none: bool, flags: SpecifierFlags) -> bool
     requires { ⌜ none ≡ no-builtin-word (now seen) ⌝ }
     ensures { λ r. ⌜ r ≡ specifiers-end (specifiers-of (now (seen .entry)) flags) ⌝ }
 {
@@ -114,7 +115,7 @@ fn specifiers_end(seen: &[usize; 29], none: bool, flags: SpecifierFlags) -> bool
 // A word that makes a specifier with the parentheses after it.
 fn parenthesis_word(
     word: u8,
-    seen: &[usize; 29],
+    seen: &[usize; COUNTED_WORDS],
     none: bool,
     flags: SpecifierFlags,
 ) -> SpecifierMove
@@ -133,8 +134,8 @@ fn parenthesis_word(
     )
 }
 
-fn qualifier_word(word: u8, seen: &[usize; 29], flags: SpecifierFlags) -> SpecifierMove
-    requires { ⌜ word < 29 ⌝ }
+fn qualifier_word(word: u8, seen: &[usize; COUNTED_WORDS], flags: SpecifierFlags) -> SpecifierMove
+    requires { ⌜ word < counted-words ⌝ }
     ensures { λ r. ⌜ SpecifierMoves (now (seen .entry)) r (qualifier-word word (specifiers-of (now (seen .entry)) flags)) ⌝ }
 {
     let new = !has(seen, word);
@@ -164,7 +165,7 @@ fn elaborated_word(
 }
 
 fn builtin_word(word: u8, flags: SpecifierFlags) -> SpecifierMove
-    requires { ⌜ word < 29 ⌝ }
+    requires { ⌜ word < counted-words ⌝ }
     ensures { λ r. ⌜ Always r (λ seen. builtin-word word (specifiers-of seen flags)) ⌝ }
 {
     let sign = flags.bit_int & is_sign(word);
@@ -232,7 +233,7 @@ fn specifier_node(
     word: u8,
     right: u8,
     second: u8,
-    seen: &[usize; 29],
+    seen: &[usize; COUNTED_WORDS],
     none: bool,
     flags: SpecifierFlags,
 ) -> SpecifierMove
@@ -278,7 +279,7 @@ pub fn validate_c_decl_specifiers(
     requires { ⌜ Ready (now tree) (now kinds) (now words) from to ⌝ }
     ensures { λ r. ⌜ Of (now (tree .entry)) (now (kinds .entry)) from to (λ x. r ≡ validate-c-decl-specifiers language (now (kinds .entry)) (now (words .entry)) x) ⌝ }
 {
-    let mut seen: [usize; 29] = [0; 29];
+    let mut seen: [usize; COUNTED_WORDS] = [0; COUNTED_WORDS];
     let mut none = true;
     let mut flags = NO_FLAGS;
     let mut before = NO_WORD;

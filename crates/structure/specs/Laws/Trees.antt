@@ -1,30 +1,22 @@
--- From a row that was read to its check: the records of its tree stand in the buffer, and the steps of the check are added to those of the reading.
+-- From a row that was read to its check: the records of its tree stand in the buffer.
 -- That a verdict depends on a word only through its number, and not on the standard, is in the type of `validate-structured-syntax`: it takes word
 -- numbers and no standard.
 -- Assumes nothing.
-use Prim.Native.Nat.{ℕ, suc, _+_, _-_, _*_, _≤_, _<_}
+use Prim.Native.Nat.{ℕ, suc, _+_, _*_, _<_}
 use mathlib.Core.Path.{_≡_, refl, sym, ap, _∙_, subst}
 use mathlib.Core.Bool.{Bool}
 use mathlib.Core.List.{List, [], _∷_, _++_, append-assoc}
 use native.Mathlib.Omega.{arith}
-use borrow.Author.Tests.{le-leb}
 use lib.ListN.{length, getD, drop, take-append-drop}
 use lib.Seq.{getD-drop, drop-drop, drop-at}
-use Rattle.rows.specs.Format.{most-tokens}
 use Rattle.reader.specs.Nodes.{NodeKind, number, Nodes, none, node, count, node-width, records}
 use Rattle.reader.specs.Reading.{argument, reading}
 use Rattle.reader.specs.ReaderSays.{TreeRead}
 use Rattle.reader.specs.Laws.Tokens.{inside}
 use Rattle.reader.specs.Laws.NodeNumbers.{three-each}
-use Rattle.reader.specs.Laws.Buffer.{holds}
 use Rattle.reader.specs.Laws.Derived.{Read, end-row, end-group, end-argument, a-token, a-group, a-list, last, more, derived}
-use Rattle.reader.specs.Laws.Bounds.{opener-inside, two-nodes}
-use Rattle.type_nodes.specs.Stands.{Stands, ends, here, Ready}
-use Rattle.structure.specs.Said.{Said, after}
-use Rattle.structure.specs.Allowance.{limited}
-use Rattle.structure.specs.Says.{Says}
-use Rattle.structure.specs.Laws.Limits.{limited-after}
-use Rattle.structure.specs.declared.moves.Verdict.{Verdict}
+use Rattle.reader.specs.Laws.Bounds.{opener-inside}
+use Rattle.type_nodes.specs.Stands.{Stands, ends, here}
 
 -- Every token of the nodes is one of the first n.
 abbrev pub Tokens : (n : ℕ) → Nodes → Type 0
@@ -39,25 +31,25 @@ further tree a n xs ys h e = sym (drop-drop n a tree) ∙ ap (drop n) h ∙ drop
 number-at : (tree : List ℕ) (a j m : ℕ) (xs : List ℕ) → drop a tree ≡ xs → m ≡ a + j → getD tree m 0 ≡ getD xs j 0
 number-at tree a j m xs h e = ap (λ (k : ℕ). getD tree k 0) e ∙ sym (getD-drop a tree j 0) ∙ ap (λ (l : List ℕ). getD l j 0) h
 
-pub from-records : (tree kinds : List ℕ) (x : Nodes) (a e : ℕ) (rest : List ℕ) → e ≡ a + count x → drop (3 * a) tree ≡ records x ++ rest → Tokens (length kinds) x
+pub from-records : (tree kinds : List ℕ) (x : Nodes) (a e : ℕ) (rest : List ℕ) → e ≡ a + count x → drop (node-width * a) tree ≡ records x ++ rest → Tokens (length kinds) x
     → Stands tree kinds a e x
 unfolding records count
 from-records tree kinds none a e rest q h t = let u : a ≡ e = omega arith in ends u
 from-records tree kinds (node k i b x) a e rest q h t =
     let all : List ℕ = number k ∷ i ∷ suc (count b) ∷ (records b ++ records x) ++ rest in
-    let h₁ : drop (3 * suc a) tree ≡ records b ++ (records x ++ rest) =
-    ap (λ (m : ℕ). drop m tree) (three a) ∙ further tree (3 * a) 3 (number k ∷ i ∷ suc (count b) ∷ []) ((records b ++ records x) ++ rest) h refl
+    let h₁ : drop (node-width * suc a) tree ≡ records b ++ (records x ++ rest) =
+    ap (λ (m : ℕ). drop m tree) (three a) ∙ further tree (node-width * a) node-width (number k ∷ i ∷ suc (count b) ∷ []) ((records b ++ records x) ++ rest) h refl
     ∙ append-assoc (records b) (records x) rest in
-    let h₂ : drop (3 * suc (a + count b)) tree ≡ records x ++ rest =
-    ap (λ (m : ℕ). drop m tree) (more-of a (count b)) ∙ further tree (3 * suc a) (3 * count b) (records b) (records x ++ rest) h₁ (three-each b) in
-    here (number-at tree (3 * a) 0 (3 * a) all h (omega arith)) (number-at tree (3 * a) 1 (3 * a + 1) all h refl) (number-at tree (3 * a) 2 (3 * a + 2) all h refl) (t .0)
+    let h₂ : drop (node-width * suc (a + count b)) tree ≡ records x ++ rest =
+    ap (λ (m : ℕ). drop m tree) (more-of a (count b)) ∙ further tree (node-width * suc a) (node-width * count b) (records b) (records x ++ rest) h₁ (three-each b) in
+    here (number-at tree (node-width * a) 0 (node-width * a) all h (omega arith)) (number-at tree (node-width * a) 1 (node-width * a + 1) all h refl) (number-at tree (node-width * a) 2 (node-width * a + 2) all h refl) (t .0)
     (from-records tree kinds b (suc a) (suc (a + count b)) (records x ++ rest) (omega arith) h₁ (t .1))
     (from-records tree kinds x (suc (a + count b)) e rest (omega arith) h₂ (t .2))
   where
-    three : (a : ℕ) → 3 * suc a ≡ 3 * a + 3
+    three : (a : ℕ) → node-width * suc a ≡ node-width * a + node-width
     three a = omega arith
 
-    more-of : (a m : ℕ) → 3 * suc (a + m) ≡ 3 * suc a + 3 * m
+    more-of : (a m : ℕ) → node-width * suc (a + m) ≡ node-width * suc a + node-width * m
     more-of a m = omega arith
 
 -- ---- the tokens of a tree that was read
@@ -79,7 +71,7 @@ module _ (row : List ℕ) where
   tokens-read (last r c) = let u = tokens-read r in (subst (λ (m : ℕ). m < length row) (begins r) (u .0), u, tt)
   tokens-read (more r e r₁) = let u = tokens-read r in (subst (λ (m : ℕ). m < length row) (begins r) (u .0), u, tokens-read r₁)
 
--- ---- the check of a row that was read with m steps
+-- ---- a row that was read
 
 module _ (cpp : Bool) {tree kinds : List ℕ} {allowance n m : ℕ} (r : TreeRead kinds allowance (reading cpp kinds) n m tree) where
   pub tree-stands : Stands tree kinds 0 n (r .nodes)
@@ -87,18 +79,3 @@ module _ (cpp : Bool) {tree kinds : List ℕ} {allowance n m : ℕ} (r : TreeRea
       from-records tree kinds (r .nodes) 0 n (drop (node-width * n) tree) (omega (arith, r .counted))
       (sym (take-append-drop (node-width * n) tree) ∙ ap (λ (l : List ℕ). l ++ drop (node-width * n) tree) (r .written))
       (tokens-read kinds (derived kinds cpp (r .is)))
-
-  pub tree-ready : {words : List ℕ} → length words ≡ length kinds → length kinds ≤ most-tokens → Ready tree kinds words 0 n
-  tree-ready w k = record {
-    formed = record {
-      nodes = r .nodes;
-      stands = tree-stands;
-      room = holds (r .nodes) n tree (r .counted) (r .written);
-      few = omega (arith, two-nodes kinds cpp (r .is), r .counted);
-    };
-    worded = w;
-  }
-
-  -- Its steps are added to those of the reading.
-  pub steps-added : {what : Nodes → Said} {v : Verdict} → Says tree kinds 0 n (allowance - m) what v → v ≡ limited allowance (after m (what (r .nodes)))
-  steps-added {what} s = s .says (r .nodes) tree-stands ∙ sym (limited-after allowance m (what (r .nodes)) ∙ rw (le-leb m allowance (r .allowed)))

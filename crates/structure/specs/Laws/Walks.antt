@@ -6,7 +6,7 @@ use mathlib.Core.List.{List}
 use native.Mathlib.Omega.{arith}
 use native.Mathlib.Numerals.{add-one}
 use lib.ListN.{length}
-use Rattle.reader.specs.Nodes.{Nodes, count}
+use Rattle.reader.specs.Nodes.{Nodes, count, node-width, numbers-bound}
 use Rattle.type_nodes.specs.Shapes.{next}
 use Rattle.type_nodes.specs.Stands.{Stands, Formed, Ready, Of, below}
 use Rattle.type_nodes.specs.Laws.Siblings.{first, unique}
@@ -21,8 +21,8 @@ use Rattle.structure.specs.declared.moves.Verdict.the-variants.{Holds}
 pub record Walk (tree kinds : List ℕ) (whole : Nodes → Said) (from to allowed left : ℕ) (todo : Nodes → Said) (at : ℕ) : Type 0 where
   pub rest : Nodes
   pub stands : Stands tree kinds at to rest
-  pub room : 3 * to ≤ length tree
-  pub few : to ≤ 65536
+  pub room : node-width * to ≤ length tree
+  pub few : to ≤ numbers-bound
   pub past : from ≤ at
   pub is : (x : Nodes) → Stands tree kinds from to x → limited allowed (whole x) ≡ limited left (todo rest)
 

@@ -9,7 +9,7 @@ use lib.Dec.{eqb}
 use borrow.Author.Tests.{eq-eqb, ne-eqb}
 use Rattle.rows.specs.Notation.{if_then_else_}
 use Rattle.rows.specs.Kinds.{Comma}
-use Rattle.reader.specs.Nodes.{Nodes, none, node, count}
+use Rattle.reader.specs.Nodes.{Nodes, none, node, count, node-width, numbers-bound}
 use Rattle.type_nodes.specs.Shapes.{empty, next, shape, prepend, split-on-commas}
 use Rattle.type_nodes.specs.Stands.{Stands, ends, here, Formed, Of, below}
 use Rattle.type_nodes.specs.CommaParts.{first-part, from-comma}
@@ -69,8 +69,8 @@ module _ {tree kinds : List ℕ} where
 pub record PartLoop (tree kinds : List ℕ) (from to at : ℕ) : Type 0 where
   pub rest : Nodes
   pub stands : Stands tree kinds at to rest
-  pub room : 3 * to ≤ length tree
-  pub few : to ≤ 65536
+  pub room : node-width * to ≤ length tree
+  pub few : to ≤ numbers-bound
   pub is : (x : Nodes) → Stands tree kinds from to x → from + count (first-part kinds x) ≡ at + count (first-part kinds rest)
 
 first-comma : (kinds : List ℕ) (x : Nodes) → shape kinds x ≡ Comma → count (first-part kinds x) ≡ 0

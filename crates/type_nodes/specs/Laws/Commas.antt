@@ -8,8 +8,8 @@ use native.Mathlib.Decide.{decLe}
 use lib.ListN.{length}
 use lib.Dec.{eqb}
 use borrow.Author.Tests.{eq-eqb, ne-eqb}
-use Rattle.reader.specs.Nodes.{Nodes, none, node, count}
-use Rattle.type_nodes.specs.Shapes.{empty, next, shape, prepend, split-on-commas, parts-are-full, is-ellipsis}
+use Rattle.reader.specs.Nodes.{Nodes, none, node, count, node-width, numbers-bound}
+use Rattle.type_nodes.specs.Shapes.{empty, next, shape, prepend, split-on-commas, parts-are-full, is-ellipsis, NoNode}
 use Rattle.type_nodes.specs.Stands.{Stands, Formed, Of, below}
 use Rattle.type_nodes.specs.Laws.Siblings.{first, nothing-left, shape-none, last-empty, unique}
 
@@ -55,8 +55,8 @@ module _ (kinds : List ℕ) (some : Bool) where
 pub record CommaLoop (tree kinds : List ℕ) (from to : ℕ) (some : Bool) (at : ℕ) : Type 0 where
   pub rest : Nodes
   pub stands : Stands tree kinds at to rest
-  pub room : 3 * to ≤ length tree
-  pub few : to ≤ 65536
+  pub room : node-width * to ≤ length tree
+  pub few : to ≤ numbers-bound
   pub is : (x : Nodes) → Stands tree kinds from to x → parts-are-full (split-on-commas kinds x) ≡ full-from some (split-on-commas kinds rest)
 
 module _ {tree kinds : List ℕ} {from to : ℕ} where
@@ -115,7 +115,7 @@ module _ {tree kinds : List ℕ} {from to : ℕ} where
 
 module _ {tree kinds : List ℕ} where
   -- A shape that is not `NoNode` is that of a node.
-  pub shaped-range : {at to s : ℕ} → Formed tree kinds at to → Of tree kinds at to (λ x. s ≡ shape kinds x) → s < 58 → at < to
+  pub shaped-range : {at to s : ℕ} → Formed tree kinds at to → Of tree kinds at to (λ x. s ≡ shape kinds x) → s < NoNode → at < to
   shaped-range {at} {to} f sh h =
       elim (decLe to at) [
         | yes p ↦ let u = sh (f .nodes) (f .stands) ∙ shape-none (f .stands) p in absurd (omega (arith, u, h))

@@ -13,12 +13,12 @@ use Rattle.rows.specs.Notation.{if_then_else_, _is-one-of_}
 use Rattle.rows.specs.Words.{long}
 use Rattle.rows.specs.Laws.Tests.{or-false, or-assoc}
 use Rattle.type_nodes.specs.Sets.{builtin-type-words, is-c-builtin-type-word}
-use Rattle.type_nodes.specs.Specifiers.{times, has, once-more, how-many, builtin-words, no-builtin-word, too-often}
+use Rattle.type_nodes.specs.Specifiers.{times, has, once-more, how-many, builtin-words, no-builtin-word, too-often, counted-words}
 use Rattle.type_nodes.specs.RepresentedSpecifiers.{Counted}
 
 unfoldable pub all-counted : List ℕ → Bool
 all-counted [] = true
-all-counted (w ∷ ws) = ltb w 29 && all-counted ws
+all-counted (w ∷ ws) = ltb w counted-words && all-counted ws
 
 pub and-left : (a b : Bool) → (a && b) ≡ true → a ≡ true
 and-left true b e = refl
@@ -31,8 +31,8 @@ and-right false b e = absurd (true≢false (sym e))
 pub counted : (ws : List ℕ) → all-counted ws ≡ true → Counted ws
 unfolding all-counted
 counted [] h i p = absurd (omega arith)
-counted (w ∷ ws) h zero p = ltb-true w 29 (and-left (ltb w 29) (all-counted ws) h)
-counted (w ∷ ws) h (suc i) p = counted ws (and-right (ltb w 29) (all-counted ws) h) i (omega arith)
+counted (w ∷ ws) h zero p = ltb-true w counted-words (and-left (ltb w counted-words) (all-counted ws) h)
+counted (w ∷ ws) h (suc i) p = counted ws (and-right (ltb w counted-words) (all-counted ws) h) i (omega arith)
 
 pub all-left : (words seen : List ℕ) → 0 + how-many (drop 0 words) seen ≡ how-many words seen
 all-left words seen = omega arith

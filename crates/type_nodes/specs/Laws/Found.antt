@@ -7,7 +7,7 @@ use native.Mathlib.Omega.{arith}
 use lib.ListN.{length}
 use lib.Dec.{eqb}
 use borrow.Author.Tests.{eq-eqb, ne-eqb}
-use Rattle.reader.specs.Nodes.{Nodes, none, node, count}
+use Rattle.reader.specs.Nodes.{Nodes, none, node, count, node-width, numbers-bound}
 use Rattle.type_nodes.specs.Shapes.{empty, next, shape}
 use Rattle.type_nodes.specs.AbstractDeclarators.{any}
 use Rattle.type_nodes.specs.Stands.{Stands, Formed, Of, below}
@@ -16,8 +16,8 @@ use Rattle.type_nodes.specs.Laws.Siblings.{first, nothing-left, unique}
 pub record AnyLoop (tree kinds : List ℕ) (wanted from to at : ℕ) : Type 0 where
   pub rest : Nodes
   pub stands : Stands tree kinds at to rest
-  pub room : 3 * to ≤ length tree
-  pub few : to ≤ 65536
+  pub room : node-width * to ≤ length tree
+  pub few : to ≤ numbers-bound
   pub is : (x : Nodes) → Stands tree kinds from to x → any kinds wanted x ≡ any kinds wanted rest
 
 any-first : (kinds : List ℕ) (wanted : ℕ) (x : Nodes) → empty x ≡ false → any kinds wanted x ≡ (eqb (shape kinds x) wanted || any kinds wanted (next x))

@@ -10,7 +10,7 @@ use lib.Dec.{eqb}
 use Rattle.rows.specs.Notation.{if_then_else_}
 use Rattle.rows.specs.Kinds.{Identifier}
 use Rattle.rows.specs.Words.{no-word}
-use Rattle.reader.specs.Nodes.{NodeKind, T-node, G-node, B-node, L-node, A-node, number, Nodes, none, node, count}
+use Rattle.reader.specs.Nodes.{NodeKind, T-node, G-node, B-node, L-node, A-node, number, Nodes, none, node, count, kind-of, token-of, extent-of}
 use Rattle.type_nodes.specs.Shapes.{NoNode, Parenthesized, Bracketed, TemplateArguments, TemplateArgument, empty, next, shape-of, shape, node-identifier, is-single-token}
 use Rattle.type_nodes.specs.Stands.{Stands, ends, here, Finds, below, token-of-first}
 use Rattle.type_nodes.specs.declared.nodes.Lookup.{Lookup}
@@ -24,9 +24,9 @@ kind-number (node k i b x) = number k
 -- the first of the nodes, where there is one
 pub record First (tree kinds : List ℕ) (at to : ℕ) (x : Nodes) : Type 0 where
   pub full : empty x ≡ false
-  pub kind : getD tree (3 * at) 0 ≡ kind-number x
-  pub token : getD tree (3 * at + 1) 0 ≡ token-of-first x
-  pub extent : getD tree (3 * at + 2) 0 ≡ suc (count (below x))
+  pub kind : kind-of tree at ≡ kind-number x
+  pub token : token-of tree at ≡ token-of-first x
+  pub extent : extent-of tree at ≡ suc (count (below x))
   pub known : token-of-first x < length kinds
   pub inner : Stands tree kinds (suc at) (suc (at + count (below x))) (below x)
   pub rest : Stands tree kinds (suc (at + count (below x))) to (next x)
@@ -56,7 +56,7 @@ module _ {tree kinds : List ℕ} where
   empty-range (here k i x t s r) h = absurd (omega (arith, stands-count r))
 
   -- the shape of the first node, as code reads it
-  pub shape-token : {at to : ℕ} {x : Nodes} → First tree kinds at to x → getD tree (3 * at) 0 ≡ 0 → shape kinds x ≡ getD kinds (token-of-first x) 58
+  pub shape-token : {at to : ℕ} {x : Nodes} → First tree kinds at to x → kind-of tree at ≡ 0 → shape kinds x ≡ getD kinds (token-of-first x) NoNode
   unfolding shape shape-of token-of-first kind-number empty number
   shape-token {x = none} f h = let z : _≡_ {A = Bool} true false = f .full in let u : _≡_ {A = ℕ} 0 1 = cc in absurd (omega arith)
   shape-token {x = node T-node i b x} f h = refl
@@ -65,7 +65,7 @@ module _ {tree kinds : List ℕ} where
   shape-token {x = node L-node i b x} f h = absurd (omega (arith, f .kind))
   shape-token {x = node A-node i b x} f h = absurd (omega (arith, f .kind))
 
-  pub shape-group : {at to : ℕ} {x : Nodes} → First tree kinds at to x → (getD tree (3 * at) 0 ≡ 0 → ⊥) → shape kinds x ≡ 58 + getD tree (3 * at) 0
+  pub shape-group : {at to : ℕ} {x : Nodes} → First tree kinds at to x → (kind-of tree at ≡ 0 → ⊥) → shape kinds x ≡ NoNode + kind-of tree at
   unfolding shape shape-of token-of-first kind-number empty number
   shape-group {x = none} f h = let z : _≡_ {A = Bool} true false = f .full in let u : _≡_ {A = ℕ} 0 1 = cc in absurd (omega arith)
   shape-group {x = node T-node i b x} f h = absurd (h (f .kind))
@@ -83,7 +83,7 @@ module _ {tree kinds : List ℕ} where
   kind-small {x = node L-node i b x} f = omega arith
   kind-small {x = node A-node i b x} f = omega arith
 
-  pub shape-none : {at to : ℕ} {x : Nodes} → Stands tree kinds at to x → to ≤ at → shape kinds x ≡ 58
+  pub shape-none : {at to : ℕ} {x : Nodes} → Stands tree kinds at to x → to ≤ at → shape kinds x ≡ NoNode
   unfolding shape
   shape-none (ends e) h = refl
   shape-none (here k i x t s r) h = absurd (omega (arith, stands-count r))
@@ -100,24 +100,24 @@ getD-in (a ∷ l) (suc i) d d′ h = getD-in l i d d′ (omega arith)
 
 -- what code reads
 module _ {tree kinds : List ℕ} {at to : ℕ} {x : Nodes} (s : Stands tree kinds at to x) (h : at < to) where
-  pub read-known : {t : ℕ} → t ≡ getD tree (3 * at + 1) 0 → t < length kinds
+  pub read-known : {t : ℕ} → t ≡ token-of tree at → t < length kinds
   read-known e = let f = first s h in omega (arith, e, f .token)
 
-  pub read-token : {t : ℕ} → getD tree (3 * at) 0 ≡ 0 → t ≡ getD tree (3 * at + 1) 0 → getD kinds t 0 ≡ shape kinds x
+  pub read-token : {t : ℕ} → kind-of tree at ≡ 0 → t ≡ token-of tree at → getD kinds t 0 ≡ shape kinds x
   read-token {t} z e =
       let f = first s h in
-      getD-in kinds t 0 58 (read-known e) ∙ ap (λ (m : ℕ). getD kinds m 58) (e ∙ f .token) ∙ sym (shape-token f z)
+      getD-in kinds t 0 NoNode (read-known e) ∙ ap (λ (m : ℕ). getD kinds m NoNode) (e ∙ f .token) ∙ sym (shape-token f z)
 
-  pub read-group : (getD tree (3 * at) 0 ≡ 0 → ⊥) → 58 + getD tree (3 * at) 0 ≡ shape kinds x
+  pub read-group : (kind-of tree at ≡ 0 → ⊥) → NoNode + kind-of tree at ≡ shape kinds x
   read-group z = sym (shape-group (first s h) z)
 
-  pub read-small : getD tree (3 * at) 0 ≤ 4
+  pub read-small : kind-of tree at ≤ 4
   read-small = let f = first s h in omega (arith, kind-small f, f .kind)
 
-  pub read-end : {e : ℕ} → e ≡ getD tree (3 * at + 2) 0 → at + e ≡ suc (at + count (below x))
+  pub read-end : {e : ℕ} → e ≡ extent-of tree at → at + e ≡ suc (at + count (below x))
   read-end e = let f = first s h in omega (arith, e, f .extent)
 
-  pub read-fits : {e : ℕ} → e ≡ getD tree (3 * at + 2) 0 → at + e ≤ to
+  pub read-fits : {e : ℕ} → e ≡ extent-of tree at → at + e ≤ to
   read-fits e = let f = first s h in omega (arith, e, f .extent, f .fits)
 
 -- The number of each kind, and back.
@@ -191,7 +191,7 @@ module _ {tree kinds : List ℕ} {at to : ℕ} {x : Nodes} (s : Stands tree kind
     pub identifier-other : (words : List ℕ) → (m ≡ Identifier → ⊥) → no-word ≡ node-identifier kinds words x
     identifier-other words e = sym (identifier-of kinds words x (f .0) ∙ rw (← f .1, ne-eqb m Identifier e))
 
-pub single-none : (kinds : List ℕ) (kind : ℕ) {x : Nodes} → kind < 58 → x ≡ none → false ≡ is-single-token kinds kind x
+pub single-none : (kinds : List ℕ) (kind : ℕ) {x : Nodes} → kind < NoNode → x ≡ none → false ≡ is-single-token kinds kind x
 unfolding is-single-token shape
 single-none kinds kind k e = sym (rw e (rw (ne-eqb NoNode kind (omega arith))))
 

@@ -6,11 +6,11 @@ use mathlib.Core.List.{List, [], _∷_}
 use native.Mathlib.Omega.{arith}
 use native.Mathlib.Numerals.{add-one}
 use lib.ListN.{length, length-set, getD, set, replicate}
-use Rattle.reader.specs.Nodes.{Nodes, none, node, count}
+use Rattle.reader.specs.Nodes.{Nodes, none, node, count, node-width, numbers-bound}
 use Rattle.type_nodes.specs.Shapes.{empty, next, shape, exact-word}
 use Rattle.type_nodes.specs.Moves.{Move, stop, on}
 use Rattle.type_nodes.specs.Sets.{builtin-type-words, is-c-builtin-type-word}
-use Rattle.type_nodes.specs.Specifiers.{Specifiers, times, has, how-many, builtin-words, no-builtin-word, once-more, none-seen, specifiers-end, specifier-node, specifiers-from, validate-c-decl-specifiers}
+use Rattle.type_nodes.specs.Specifiers.{Specifiers, times, has, how-many, builtin-words, no-builtin-word, once-more, none-seen, specifiers-end, specifier-node, specifiers-from, validate-c-decl-specifiers, counted-words}
 use Rattle.type_nodes.specs.Stands.{Stands, Ready, Of, below}
 use Rattle.type_nodes.specs.RepresentedSpecifiers.{specifiers-of, specifier-move-of, Known, SpecifierMoves}
 use Rattle.type_nodes.specs.Laws.Siblings.{first, nothing-left, unique}
@@ -56,24 +56,24 @@ module _ (lang : ℕ) (kinds words : List ℕ) where
   from-on (node k i b x) lw st h e = rw (e, specifiers-from)
 
 -- The word that a move counts has a count.
-pub counted-known : {seen : List ℕ} {r : SpecifierMove} {m : Move Specifiers} {v : ℕ} {g : SpecifierFlags} → SpecifierMoves seen r m → r ≡ M.Count v g → v < 29
+pub counted-known : {seen : List ℕ} {r : SpecifierMove} {m : Move Specifiers} {v : ℕ} {g : SpecifierFlags} → SpecifierMoves seen r m → r ≡ M.Count v g → v < counted-words
 counted-known {v = v} {g = g} mv q = subst Known q (mv .known)
 
 -- `counts`: no word was seen more often than there are nodes before the node, so the code can count.
 pub record SpecifierLoop (lang : ℕ) (tree kinds words : List ℕ) (from to : ℕ) (seen : List ℕ) (no-builtin : Bool) (f : SpecifierFlags) (lw at : ℕ) : Type 0 where
   pub rest : Nodes
   pub stands : Stands tree kinds at to rest
-  pub room : 3 * to ≤ length tree
-  pub few : to ≤ 65536
+  pub room : node-width * to ≤ length tree
+  pub few : to ≤ numbers-bound
   pub worded : length words ≡ length kinds
   pub counts : (w : ℕ) → getD seen w 0 ≤ at
-  pub sized : length seen ≡ 29
+  pub sized : length seen ≡ counted-words
   pub kept : no-builtin ≡ no-builtin-word seen
   pub is : (x : Nodes) → Stands tree kinds from to x
       → validate-c-decl-specifiers lang kinds words x ≡ specifiers-from lang kinds words rest lw (specifiers-of seen f)
 
 pub specifiers-start : (lang : ℕ) {tree kinds words : List ℕ} {from to : ℕ} → Ready tree kinds words from to
-    → SpecifierLoop lang tree kinds words from to (replicate 29 0) true (record { named = false; elaborated = false; «bit_int» = false; scoped = false }) 0 from
+    → SpecifierLoop lang tree kinds words from to (replicate counted-words 0) true (record { named = false; elaborated = false; «bit_int» = false; scoped = false }) 0 from
 unfolding validate-c-decl-specifiers none-seen no-builtin-word builtin-words builtin-type-words how-many has times
 specifiers-start lang r = record {
   rest = r .formed .nodes;
@@ -81,7 +81,7 @@ specifiers-start lang r = record {
   room = r .formed .room;
   few = r .formed .few;
   worded = r .worded;
-  counts = λ w. omega (arith, zeros 29 w);
+  counts = λ w. omega (arith, zeros counted-words w);
   sized = refl;
   kept = refl;
   is = λ x s. rw (unique s (r .formed .stands)) refl;
@@ -95,7 +95,7 @@ module _ {lang : ℕ} {tree kinds words : List ℕ} {from to : ℕ} {seen : List
   pub specifiers-left : to ≤ at → {r : Bool} → r ≡ specifiers-end (specifiers-of seen f) → Of tree kinds from to (λ x. r ≡ validate-c-decl-specifiers lang kinds words x)
   specifiers-left h e x s = e ∙ sym (lp .is x s ∙ from-none lang kinds words (lp .rest) lw (specifiers-of seen f) (nothing-left (lp .stands) h))
 
-  pub count-fits : (w : ℕ) → at < to → getD seen w 0 < 65536
+  pub count-fits : (w : ℕ) → at < to → getD seen w 0 < numbers-bound
   count-fits w h = omega (arith, lp .counts w, lp .few)
 
   module _ (h : at < to) {e : ℕ} (en : Of tree kinds at to (λ x. e ≡ suc (at + count (below x)))) where
@@ -123,7 +123,7 @@ module _ {lang : ℕ} {tree kinds words : List ℕ} {from to : ℕ} {seen : List
           sym (lp .is x t ∙ from-stop lang kinds words (lp .rest) lw (specifiers-of seen f) (first (lp .stands) h .full) (done-here ∙ ap (specifier-move-of seen) q))
 
       -- The loop at the next node, with other counts and flags.
-      on-to : {l : List ℕ} {b : Bool} {g : SpecifierFlags} → specifier-move-of seen r ≡ on (specifiers-of l g) → ((v : ℕ) → getD l v 0 ≤ e) → length l ≡ 29
+      on-to : {l : List ℕ} {b : Bool} {g : SpecifierFlags} → specifier-move-of seen r ≡ on (specifiers-of l g) → ((v : ℕ) → getD l v 0 ≤ e) → length l ≡ counted-words
           → b ≡ no-builtin-word l → SpecifierLoop lang tree kinds words from to l b g w e
       on-to {l} {b} {g} q n z k = record {
         rest = next (lp .rest);

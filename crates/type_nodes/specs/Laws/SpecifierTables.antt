@@ -11,7 +11,7 @@ use Rattle.rows.specs.Kinds.{Identifier, Scope}
 use Rattle.type_nodes.specs.Shapes.{Parenthesized, TemplateArguments}
 use Rattle.type_nodes.specs.Sets.{parenthesis-words, elaborated-words, is-c-builtin-type-word, is-c-family-declarator-qualifier, builtin-type-words, declarator-qualifiers}
 use Rattle.type_nodes.specs.Moves.{Move, stop, on}
-use Rattle.type_nodes.specs.Specifiers.{Specifiers, specifiers-end, parenthesis-word, qualifier-word, elaborated-word, builtin-word, name-word, specifier-scope, specifier-list, specifier-node}
+use Rattle.type_nodes.specs.Specifiers.{Specifiers, specifiers-end, parenthesis-word, qualifier-word, elaborated-word, builtin-word, name-word, specifier-scope, specifier-list, specifier-node, counted-words}
 use Rattle.type_nodes.specs.RepresentedSpecifiers.{SpecifierMoves}
 use Rattle.type_nodes.specs.Laws.Counts.{all-counted, and-left, and-right}
 use Rattle.type_nodes.specs.declared.specifiers.SpecifierMove.{SpecifierMove}
@@ -22,20 +22,20 @@ moved w e = record { is = w .is ∙ e; known = w .known }
 
 -- ---- words that are counted
 
-one-counted : (w : ℕ) (ws : List ℕ) → all-counted ws ≡ true → (w is-one-of ws) ≡ true → w < 29
+one-counted : (w : ℕ) (ws : List ℕ) → all-counted ws ≡ true → (w is-one-of ws) ≡ true → w < counted-words
 unfolding all-counted _is-one-of_
 one-counted w [] a h = absurd (true≢false (sym h))
 one-counted w (v ∷ ws) a h =
-    elim (eqb w v) as (λ t. eqb w v ≡ t → w < 29) [
-      | true ↦ λ e. omega (arith, eqb-true w v e, ltb-true v 29 (and-left (ltb v 29) (all-counted ws) a))
-      | false ↦ λ e. one-counted w ws (and-right (ltb v 29) (all-counted ws) a) (rw e at h)
+    elim (eqb w v) as (λ t. eqb w v ≡ t → w < counted-words) [
+      | true ↦ λ e. omega (arith, eqb-true w v e, ltb-true v counted-words (and-left (ltb v counted-words) (all-counted ws) a))
+      | false ↦ λ e. one-counted w ws (and-right (ltb v counted-words) (all-counted ws) a) (rw e at h)
     ] refl
 
-pub builtin-counted : (w : ℕ) → is-c-builtin-type-word w ≡ true → w < 29
+pub builtin-counted : (w : ℕ) → is-c-builtin-type-word w ≡ true → w < counted-words
 unfolding is-c-builtin-type-word builtin-type-words all-counted
 builtin-counted w h = one-counted w builtin-type-words refl h
 
-pub qualifier-counted : (w : ℕ) → is-c-family-declarator-qualifier w ≡ true → w < 29
+pub qualifier-counted : (w : ℕ) → is-c-family-declarator-qualifier w ≡ true → w < counted-words
 unfolding is-c-family-declarator-qualifier declarator-qualifiers all-counted
 qualifier-counted w h = one-counted w declarator-qualifiers refl h
 

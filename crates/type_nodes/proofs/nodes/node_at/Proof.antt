@@ -10,9 +10,9 @@ use Rattle.type_nodes.proofs.nodes.node_at.Statement.{statement}
 use Rattle.type_nodes.proofs.nodes.node_at.Tie as tie
 use Rattle.type_nodes.proofs.nodes.node_at.Reads as reads
 use Rattle.type_nodes.proofs.nodes.node_at.Lts as lts
+use Rattle.reader.proofs.nodes.node_token.Reads as node-token-reads
 use Rattle.type_nodes.proofs.nodes.node_end.Reads as node-end-reads
 use Rattle.type_nodes.proofs.nodes.shape_at.Reads as shape-at-reads
-use Rattle.type_nodes.proofs.nodes.wide.Reads as wide-reads
 
 returns : tie.Need-returns
 returns c = λ x s. nothing-left s (omega arith)
@@ -20,37 +20,15 @@ returns c = λ x s. nothing-left s (omega arith)
 shape-at-requires : tie.Need-shape-at-requires
 shape-at-requires c κs = search needs
 
-mul-wide : tie.Need-mul-wide
-mul-wide c = search needs
-
-add-wide : tie.Need-add-wide
-add-wide c = search needs
-
-mul-wide-2 : tie.Need-mul-wide-2
-mul-wide-2 c = search needs
-
-shared-slice-read-wide : tie.Need-shared-slice-read-wide
-shared-slice-read-wide c = search needs
-
-wide-requires : tie.Need-wide-requires
-wide-requires c κs = search needs
+node-token-requires : tie.Need-node-token-requires
+node-token-requires c κs = omega (arith, c .before .before .before .before .pre .room, c .before .before .before .before .pre .few)
 
 node-end-requires : tie.Need-node-end-requires
 node-end-requires c κs = search needs
 
 returns-2 : tie.Need-returns-2
-returns-2 c = λ x s. (first s (omega arith) .full, c .before .before .before .shape-at .ensures x s, c .before .wide .ensures ∙ first s (omega arith) .token, c .node-end .ensures x s)
+returns-2 c = λ x s. (first s (omega arith) .full, c .before .before .shape-at .ensures x s, c .before .node-token .ensures .0 ∙ first s (omega arith) .token, c .node-end .ensures x s)
 
 pub node-at-spec : {M : Type 1} → statement M
 node-at-spec =
-    tie.close
-    (tie.spec
-    returns
-    shape-at-requires
-    mul-wide
-    add-wide
-    mul-wide-2
-    shared-slice-read-wide
-    wide-requires
-    node-end-requires
-    returns-2)
+    tie.close (tie.spec returns shape-at-requires node-token-requires node-end-requires returns-2)

@@ -10,30 +10,16 @@ use Rattle.type_nodes.proofs.nodes.node_end.Statement.{statement}
 use Rattle.type_nodes.proofs.nodes.node_end.Tie as tie
 use Rattle.type_nodes.proofs.nodes.node_end.Reads as reads
 use Rattle.type_nodes.proofs.nodes.node_end.Lts as lts
-use Rattle.type_nodes.proofs.nodes.wide.Reads as wide-reads
+use Rattle.reader.proofs.nodes.node_extent.Reads as node-extent-reads
 
-mul-wide : tie.Need-mul-wide
-mul-wide c = search needs
-
-add-wide : tie.Need-add-wide
-add-wide c = search needs
-
-mul-wide-2 : tie.Need-mul-wide-2
-mul-wide-2 c = search needs
-
-shared-slice-read-wide : tie.Need-shared-slice-read-wide
-shared-slice-read-wide c = search needs
-
-wide-requires : tie.Need-wide-requires
-wide-requires c κs = search needs
+node-extent-requires : tie.Need-node-extent-requires
+node-extent-requires c κs = omega (arith, c .before .before .pre .0, c .before .before .pre .1 .room)
 
 add-result : tie.Need-add-result
-add-result c = record { fits = let u = read-fits (c .before .before .before .before .pre .1 .stands) (c .before .before .before .before .pre .0) (c .wide .ensures) in omega arith }
+add-result c = record { fits = let u = read-fits (c .before .before .before .pre .1 .stands) (c .before .before .before .pre .0) (c .node-extent .ensures .0) in omega arith }
 
 returns : tie.Need-returns
-returns c = λ x s. read-end s (c .before .before .before .before .pre .0) (c .wide .ensures)
+returns c = λ x s. read-end s (c .before .before .before .pre .0) (c .node-extent .ensures .0)
 
 pub node-end-spec : {M : Type 1} → statement M
-node-end-spec =
-    tie.close
-    (tie.spec mul-wide add-wide mul-wide-2 shared-slice-read-wide wide-requires add-result returns)
+node-end-spec = tie.close (tie.spec node-extent-requires add-result returns)
