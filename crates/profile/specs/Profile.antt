@@ -1,4 +1,4 @@
--- What a row uses and a standard lacks: document 01, refusal 40; `validate_profile_features` restated over rows. Words are compared with case ignored.
+-- What a row uses and a standard lacks: document 01, refusal 40; `validate_profile_features` restated over rows.
 -- Assumes nothing.
 use Prim.Native.Nat.{ℕ, zero, suc, _+_}
 use mathlib.Core.Bool.{Bool, true, false, _&&_, _||_}
@@ -8,7 +8,7 @@ use lib.Dec.{leb, ltb, eqb}
 use Rattle.rows.specs.Notation.{if_then_else_}
 use Rattle.rows.specs.Languages.{C, Cpp, Fortran, C99, C11, C23, Cpp11, Fortran90, Fortran2003, Fortran2018}
 use Rattle.rows.specs.Kinds.{Identifier, LeftParen, RightParen, Dot, Star, LogicalAnd, Equal, NoToken}
-use Rattle.rows.specs.Words.{no-word, ignoring-case, long, «_Atomic», «_BitInt», typeof, «typeof_unqual», decltype, type, class}
+use Rattle.rows.specs.Words.{no-word, exactly, ignoring-case, long, «_Atomic», «_BitInt», typeof, «typeof_unqual», decltype, type, class}
 use Rattle.rows.specs.Refusals.{featureDetail}
 use Rattle.rows.specs.declared.answer.Feature.{Feature}
 use Rattle.rows.specs.declared.answer.Feature.the-variants.{LongLong, Atomic, BitInt, Typeof, TypeofUnqual, Decltype, RvalueReference, Selector, DerivedType, Class, AssumedTypeOrRank}
@@ -37,36 +37,44 @@ module _ (kinds : List ℕ) where
   unfoldable pub has-assumed-rank : Bool
   has-assumed-rank = some-token (λ at. kind-is at LeftParen && kind-is (at + 1) Dot && kind-is (at + 2) Dot && kind-is (at + 3) RightParen)
 
-  module _ (words : List ℕ) where
-    -- `identifier_is`, which ignores case in every language.
-    unfoldable pub identifier-is : (at word : ℕ) → Bool
-    identifier-is at word = kind-is at Identifier && eqb (ignoring-case (getD words at no-word)) word
+-- Whether `identifier_is` ignores case: in every language.
+abbrev pub ignores-case : (language : ℕ) → Bool
+ignores-case language = true
 
-    -- `has_adjacent_identifiers`
-    unfoldable pub has-adjacent-identifiers : (first second : ℕ) → Bool
-    has-adjacent-identifiers first second = some-token (λ at. identifier-is at first && identifier-is (at + 1) second)
+-- Which known word it is as words are compared, by its number.
+abbrev pub compared : (ignoring : Bool) (number : ℕ) → ℕ
+compared ignoring number = if ignoring then ignoring-case number else exactly number
 
-    -- `has_identifier_call`
-    unfoldable pub has-identifier-call : (name : ℕ) → Bool
-    has-identifier-call name = some-token (λ at. identifier-is at name && kind-is (at + 1) LeftParen)
+module _ (ignoring : Bool) (kinds words : List ℕ) where
+  -- `identifier_is`, with case ignored or not.
+  unfoldable pub identifier-is : (at word : ℕ) → Bool
+  identifier-is at word = kind-is kinds at Identifier && eqb (compared ignoring (getD words at no-word)) word
 
-    -- `has_identifier_followed_by_star`
-    unfoldable pub has-identifier-followed-by-star : (name : ℕ) → Bool
-    has-identifier-followed-by-star name = some-token (λ at. identifier-is at name && kind-is (at + 1) LeftParen && kind-is (at + 2) Star)
+  -- `has_adjacent_identifiers`
+  unfoldable pub has-adjacent-identifiers : (first second : ℕ) → Bool
+  has-adjacent-identifiers first second = some-token kinds (λ at. identifier-is at first && identifier-is (at + 1) second)
 
-    -- The row uses the feature: the tests of `validate_profile_features`, in the order of refusal 40's details.
-    unfoldable pub uses : Feature → Bool
-    uses LongLong = has-adjacent-identifiers long long
-    uses Atomic = has-identifier-call «_Atomic»
-    uses BitInt = has-identifier-call «_BitInt»
-    uses Typeof = has-identifier-call typeof
-    uses TypeofUnqual = has-identifier-call «typeof_unqual»
-    uses Decltype = has-identifier-call decltype
-    uses RvalueReference = has-kind LogicalAnd
-    uses Selector = has-kind Equal
-    uses DerivedType = has-identifier-call type
-    uses Class = has-identifier-call class
-    uses AssumedTypeOrRank = has-identifier-followed-by-star type || has-assumed-rank
+  -- `has_identifier_call`
+  unfoldable pub has-identifier-call : (name : ℕ) → Bool
+  has-identifier-call name = some-token kinds (λ at. identifier-is at name && kind-is kinds (at + 1) LeftParen)
+
+  -- `has_identifier_followed_by_star`
+  unfoldable pub has-identifier-followed-by-star : (name : ℕ) → Bool
+  has-identifier-followed-by-star name = some-token kinds (λ at. identifier-is at name && kind-is kinds (at + 1) LeftParen && kind-is kinds (at + 2) Star)
+
+  -- The row uses the feature: the tests of `validate_profile_features`, in the order of refusal 40's details.
+  unfoldable pub uses : Feature → Bool
+  uses LongLong = has-adjacent-identifiers long long
+  uses Atomic = has-identifier-call «_Atomic»
+  uses BitInt = has-identifier-call «_BitInt»
+  uses Typeof = has-identifier-call typeof
+  uses TypeofUnqual = has-identifier-call «typeof_unqual»
+  uses Decltype = has-identifier-call decltype
+  uses RvalueReference = has-kind kinds LogicalAnd
+  uses Selector = has-kind kinds Equal
+  uses DerivedType = has-identifier-call type
+  uses Class = has-identifier-call class
+  uses AssumedTypeOrRank = has-identifier-followed-by-star type || has-assumed-rank kinds
 
 -- A feature of a language, and the standard that first has it: the `standard <` of `validate_profile_features`.
 pub record Since : Type 0 where
@@ -93,12 +101,12 @@ least f Nothing = Lacks f
 least f (Lacks g) = if leb (featureDetail f) (featureDetail g) then Lacks f else Lacks g
 
 -- What the standard lacks of these features: `validate_profile_features`, a feature after the other.
-unfoldable pub lacking : (standard : ℕ) → (kinds words : List ℕ) → List Since → Lack
-lacking standard kinds words [] = Nothing
-lacking standard kinds words (s ∷ ss) =
-    let rest = lacking standard kinds words ss in
-    if uses kinds words (s .feature) && ltb standard (s .standard) then least (s .feature) rest else rest
+unfoldable pub lacking : (ignoring : Bool) (standard : ℕ) → (kinds words : List ℕ) → List Since → Lack
+lacking ignoring standard kinds words [] = Nothing
+lacking ignoring standard kinds words (s ∷ ss) =
+    let rest = lacking ignoring standard kinds words ss in
+    if uses ignoring kinds words (s .feature) && ltb standard (s .standard) then least (s .feature) rest else rest
 
 -- `validate_profile_features`
 unfoldable pub missing-feature : (language standard : ℕ) → (kinds words : List ℕ) → Lack
-missing-feature language standard kinds words = lacking standard kinds words (features language)
+missing-feature language standard kinds words = lacking (ignores-case language) standard kinds words (features language)

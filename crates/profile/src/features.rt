@@ -1,4 +1,4 @@
-// What a row uses, by its token kinds and word numbers: the tests of `validate_profile_features`. Words are compared with case ignored.
+// What a row uses, by its token kinds and word numbers: the tests of `validate_profile_features`.
 
 use rows::kinds::DOT;
 use rows::kinds::IDENTIFIER;
@@ -7,13 +7,14 @@ use rows::kinds::NO_TOKEN_KIND;
 use rows::kinds::RIGHT_PAREN;
 use rows::kinds::STAR;
 use rows::word_numbers::NO_WORD;
+use rows::word_numbers::exactly;
 use rows::word_numbers::ignoring_case;
 ghost use mathlib.Core.Path.{_≡_};
 ghost use Prim.Native.Nat.{_≤_};
 ghost use lib.ListN.{getD, length};
 ghost use Rattle.rows.specs.Format.{most-tokens};
 ghost use Rattle.rows.specs.Words.{no-word};
-ghost use Rattle.profile.specs.Profile.{kind-is, identifier-is, has-kind, has-adjacent-identifiers, has-identifier-call, has-identifier-followed-by-star, has-assumed-rank};
+ghost use Rattle.profile.specs.Profile.{compared, kind-is, identifier-is, ignores-case, has-kind, has-adjacent-identifiers, has-identifier-call, has-identifier-followed-by-star, has-assumed-rank};
 
 fn kind_is(kinds: &[u8], at: usize, kind: u8) -> bool
     ensures { λ r. ⌜ r ≡ kind-is (now (kinds .entry)) at kind ⌝ }
@@ -33,10 +34,26 @@ fn word_at(words: &[u8], at: usize) -> u8
     NO_WORD
 }
 
-fn identifier_is(kinds: &[u8], words: &[u8], at: usize, word: u8) -> bool
-    ensures { λ r. ⌜ r ≡ identifier-is (now (kinds .entry)) (now (words .entry)) at word ⌝ }
+// Whether `identifier_is` ignores case: in every language.
+pub fn ignores_case(language: u8) -> bool
+    ensures { λ r. ⌜ r ≡ ignores-case language ⌝ }
 {
-    if ignoring_case(word_at(words, at)) != word {
+    true
+}
+
+fn compared(ignoring: bool, number: u8) -> u8
+    ensures { λ r. ⌜ r ≡ compared ignoring number ⌝ }
+{
+    if ignoring {
+        return ignoring_case(number);
+    }
+    exactly(number)
+}
+
+fn identifier_is(ignoring: bool, kinds: &[u8], words: &[u8], at: usize, word: u8) -> bool
+    ensures { λ r. ⌜ r ≡ identifier-is ignoring (now (kinds .entry)) (now (words .entry)) at word ⌝ }
+{
+    if compared(ignoring, word_at(words, at)) != word {
         return false;
     }
     kind_is(kinds, at, IDENTIFIER)
@@ -55,13 +72,21 @@ pub fn has_kind(kinds: &[u8], kind: u8) -> bool
     false
 }
 
-pub fn has_adjacent_identifiers(kinds: &[u8], words: &[u8], first: u8, second: u8) -> bool
+pub fn has_adjacent_identifiers(
+    ignoring: bool,
+    kinds: &[u8],
+    words: &[u8],
+    first: u8,
+    second: u8,
+) -> bool
     requires { ⌜ length (now kinds) ≤ most-tokens ⌝ }
-    ensures { λ r. ⌜ r ≡ has-adjacent-identifiers (now (kinds .entry)) (now (words .entry)) first second ⌝ }
+    ensures { λ r. ⌜ r ≡ has-adjacent-identifiers ignoring (now (kinds .entry)) (now (words .entry)) first second ⌝ }
 {
     let mut at = 0;
     while at < kinds.len() {
-        if identifier_is(kinds, words, at, first) & identifier_is(kinds, words, at + 1, second) {
+        if identifier_is(ignoring, kinds, words, at, first)
+            & identifier_is(ignoring, kinds, words, at + 1, second)
+        {
             return true;
         }
         at += 1;
@@ -69,13 +94,13 @@ pub fn has_adjacent_identifiers(kinds: &[u8], words: &[u8], first: u8, second: u
     false
 }
 
-pub fn has_identifier_call(kinds: &[u8], words: &[u8], name: u8) -> bool
+pub fn has_identifier_call(ignoring: bool, kinds: &[u8], words: &[u8], name: u8) -> bool
     requires { ⌜ length (now kinds) ≤ most-tokens ⌝ }
-    ensures { λ r. ⌜ r ≡ has-identifier-call (now (kinds .entry)) (now (words .entry)) name ⌝ }
+    ensures { λ r. ⌜ r ≡ has-identifier-call ignoring (now (kinds .entry)) (now (words .entry)) name ⌝ }
 {
     let mut at = 0;
     while at < kinds.len() {
-        if identifier_is(kinds, words, at, name) {
+        if identifier_is(ignoring, kinds, words, at, name) {
             if kind_is(kinds, at + 1, LEFT_PAREN) {
                 return true;
             }
@@ -87,13 +112,13 @@ pub fn has_identifier_call(kinds: &[u8], words: &[u8], name: u8) -> bool
     false
 }
 
-pub fn has_identifier_followed_by_star(kinds: &[u8], words: &[u8], name: u8) -> bool
+pub fn has_identifier_followed_by_star(ignoring: bool, kinds: &[u8], words: &[u8], name: u8) -> bool
     requires { ⌜ length (now kinds) ≤ most-tokens ⌝ }
-    ensures { λ r. ⌜ r ≡ has-identifier-followed-by-star (now (kinds .entry)) (now (words .entry)) name ⌝ }
+    ensures { λ r. ⌜ r ≡ has-identifier-followed-by-star ignoring (now (kinds .entry)) (now (words .entry)) name ⌝ }
 {
     let mut at = 0;
     while at < kinds.len() {
-        if identifier_is(kinds, words, at, name)
+        if identifier_is(ignoring, kinds, words, at, name)
             & kind_is(kinds, at + 1, LEFT_PAREN)
             & kind_is(kinds, at + 2, STAR)
         {

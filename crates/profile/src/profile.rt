@@ -5,6 +5,7 @@ use crate::features::has_assumed_rank;
 use crate::features::has_identifier_call;
 use crate::features::has_identifier_followed_by_star;
 use crate::features::has_kind;
+use crate::features::ignores_case;
 use rows::answer::Feature;
 use rows::kinds::EQUAL;
 use rows::kinds::LOGICAL_AND;
@@ -43,24 +44,24 @@ pub enum Lack {
 
 // A feature that is used and that came with a later standard, `since`, is lacking.
 
-fn lacks_long_long(standard: u8, since: u8, kinds: &[u8], words: &[u8]) -> bool
+fn lacks_long_long(ignoring: bool, standard: u8, since: u8, kinds: &[u8], words: &[u8]) -> bool
     requires { ⌜ length (now kinds) ≤ most-tokens ⌝ }
-    ensures { λ r. ⌜ r ≡ (uses (now (kinds .entry)) (now (words .entry)) LongLong && ltb standard since) ⌝ }
+    ensures { λ r. ⌜ r ≡ (uses ignoring (now (kinds .entry)) (now (words .entry)) LongLong && ltb standard since) ⌝ }
 {
     if since <= standard {
         return false;
     }
-    has_adjacent_identifiers(kinds, words, LONG, LONG)
+    has_adjacent_identifiers(ignoring, kinds, words, LONG, LONG)
 }
 
-fn lacks_call(standard: u8, since: u8, kinds: &[u8], words: &[u8], name: u8) -> bool
+fn lacks_call(ignoring: bool, standard: u8, since: u8, kinds: &[u8], words: &[u8], name: u8) -> bool
     requires { ⌜ length (now kinds) ≤ most-tokens ⌝ }
-    ensures { λ r. ⌜ r ≡ (has-identifier-call (now (kinds .entry)) (now (words .entry)) name && ltb standard since) ⌝ }
+    ensures { λ r. ⌜ r ≡ (has-identifier-call ignoring (now (kinds .entry)) (now (words .entry)) name && ltb standard since) ⌝ }
 {
     if since <= standard {
         return false;
     }
-    has_identifier_call(kinds, words, name)
+    has_identifier_call(ignoring, kinds, words, name)
 }
 
 fn lacks_kind(standard: u8, since: u8, kinds: &[u8], kind: u8) -> bool
@@ -72,46 +73,52 @@ fn lacks_kind(standard: u8, since: u8, kinds: &[u8], kind: u8) -> bool
     has_kind(kinds, kind)
 }
 
-fn lacks_assumed_type_or_rank(standard: u8, since: u8, kinds: &[u8], words: &[u8]) -> bool
+fn lacks_assumed_type_or_rank(
+    ignoring: bool,
+    standard: u8,
+    since: u8,
+    kinds: &[u8],
+    words: &[u8],
+) -> bool
     requires { ⌜ length (now kinds) ≤ most-tokens ⌝ }
-    ensures { λ r. ⌜ r ≡ (uses (now (kinds .entry)) (now (words .entry)) AssumedTypeOrRank && ltb standard since) ⌝ }
+    ensures { λ r. ⌜ r ≡ (uses ignoring (now (kinds .entry)) (now (words .entry)) AssumedTypeOrRank && ltb standard since) ⌝ }
 {
     if since <= standard {
         return false;
     }
-    has_identifier_followed_by_star(kinds, words, TYPE) | has_assumed_rank(kinds)
+    has_identifier_followed_by_star(ignoring, kinds, words, TYPE) | has_assumed_rank(kinds)
 }
 
-fn missing_in_c(standard: u8, kinds: &[u8], words: &[u8]) -> Lack
+fn missing_in_c(ignoring: bool, standard: u8, kinds: &[u8], words: &[u8]) -> Lack
     requires { ⌜ length (now kinds) ≤ most-tokens ⌝ }
-    ensures { λ r. ⌜ r ≡ lacking standard (now (kinds .entry)) (now (words .entry)) (features C) ⌝ }
+    ensures { λ r. ⌜ r ≡ lacking ignoring standard (now (kinds .entry)) (now (words .entry)) (features C) ⌝ }
 {
-    if lacks_long_long(standard, C99, kinds, words) {
+    if lacks_long_long(ignoring, standard, C99, kinds, words) {
         return Lack::Lacks(Feature::LongLong);
     }
-    if lacks_call(standard, C11, kinds, words, ATOMIC) {
+    if lacks_call(ignoring, standard, C11, kinds, words, ATOMIC) {
         return Lack::Lacks(Feature::Atomic);
     }
-    if lacks_call(standard, C23, kinds, words, BIT_INT) {
+    if lacks_call(ignoring, standard, C23, kinds, words, BIT_INT) {
         return Lack::Lacks(Feature::BitInt);
     }
-    if lacks_call(standard, C23, kinds, words, TYPEOF) {
+    if lacks_call(ignoring, standard, C23, kinds, words, TYPEOF) {
         return Lack::Lacks(Feature::Typeof);
     }
-    if lacks_call(standard, C23, kinds, words, TYPEOF_UNQUAL) {
+    if lacks_call(ignoring, standard, C23, kinds, words, TYPEOF_UNQUAL) {
         return Lack::Lacks(Feature::TypeofUnqual);
     }
     Lack::Nothing
 }
 
-fn missing_in_cpp(standard: u8, kinds: &[u8], words: &[u8]) -> Lack
+fn missing_in_cpp(ignoring: bool, standard: u8, kinds: &[u8], words: &[u8]) -> Lack
     requires { ⌜ length (now kinds) ≤ most-tokens ⌝ }
-    ensures { λ r. ⌜ r ≡ lacking standard (now (kinds .entry)) (now (words .entry)) (features Cpp) ⌝ }
+    ensures { λ r. ⌜ r ≡ lacking ignoring standard (now (kinds .entry)) (now (words .entry)) (features Cpp) ⌝ }
 {
-    if lacks_long_long(standard, CPP11, kinds, words) {
+    if lacks_long_long(ignoring, standard, CPP11, kinds, words) {
         return Lack::Lacks(Feature::LongLong);
     }
-    if lacks_call(standard, CPP11, kinds, words, DECLTYPE) {
+    if lacks_call(ignoring, standard, CPP11, kinds, words, DECLTYPE) {
         return Lack::Lacks(Feature::Decltype);
     }
     if lacks_kind(standard, CPP11, kinds, LOGICAL_AND) {
@@ -120,20 +127,20 @@ fn missing_in_cpp(standard: u8, kinds: &[u8], words: &[u8]) -> Lack
     Lack::Nothing
 }
 
-fn missing_in_fortran(standard: u8, kinds: &[u8], words: &[u8]) -> Lack
+fn missing_in_fortran(ignoring: bool, standard: u8, kinds: &[u8], words: &[u8]) -> Lack
     requires { ⌜ length (now kinds) ≤ most-tokens ⌝ }
-    ensures { λ r. ⌜ r ≡ lacking standard (now (kinds .entry)) (now (words .entry)) (features Fortran) ⌝ }
+    ensures { λ r. ⌜ r ≡ lacking ignoring standard (now (kinds .entry)) (now (words .entry)) (features Fortran) ⌝ }
 {
     if lacks_kind(standard, FORTRAN90, kinds, EQUAL) {
         return Lack::Lacks(Feature::Selector);
     }
-    if lacks_call(standard, FORTRAN90, kinds, words, TYPE) {
+    if lacks_call(ignoring, standard, FORTRAN90, kinds, words, TYPE) {
         return Lack::Lacks(Feature::DerivedType);
     }
-    if lacks_call(standard, FORTRAN2003, kinds, words, CLASS) {
+    if lacks_call(ignoring, standard, FORTRAN2003, kinds, words, CLASS) {
         return Lack::Lacks(Feature::Class);
     }
-    if lacks_assumed_type_or_rank(standard, FORTRAN2018, kinds, words) {
+    if lacks_assumed_type_or_rank(ignoring, standard, FORTRAN2018, kinds, words) {
         return Lack::Lacks(Feature::AssumedTypeOrRank);
     }
     Lack::Nothing
@@ -143,14 +150,15 @@ pub fn validate_profile_features(language: u8, standard: u8, kinds: &[u8], words
     requires { ⌜ length (now kinds) ≤ most-tokens ⌝ }
     ensures { λ r. ⌜ r ≡ missing-feature language standard (now (kinds .entry)) (now (words .entry)) ⌝ }
 {
+    let ignoring = ignores_case(language);
     if language == C {
-        return missing_in_c(standard, kinds, words);
+        return missing_in_c(ignoring, standard, kinds, words);
     }
     if language == CPP {
-        return missing_in_cpp(standard, kinds, words);
+        return missing_in_cpp(ignoring, standard, kinds, words);
     }
     if language == FORTRAN {
-        return missing_in_fortran(standard, kinds, words);
+        return missing_in_fortran(ignoring, standard, kinds, words);
     }
     Lack::Nothing
 }

@@ -58,28 +58,33 @@ module _ (f : Feature) where
   both-second true b e = e
   both-second false b e = absurd (true≢false (sym e))
 
-module _ (standard : ℕ) (kinds words : List ℕ) where
-  lacking-not-less : (f : Feature) (ss : List Since) → ascends f ss ≡ true → NotLess f (lacking standard kinds words ss)
+module _ (ignoring : Bool) (standard : ℕ) (kinds words : List ℕ) where
+  lacking-not-less : (f : Feature) (ss : List Since) → ascends f ss ≡ true → NotLess f (lacking ignoring standard kinds words ss)
   unfolding ascends lacking
   lacking-not-less f [] e = tt
   lacking-not-less f (s ∷ ss) e =
-      one-more f (uses kinds words (s .feature) && ltb standard (s .standard)) (s .feature) (lacking standard kinds words ss)
+      one-more f (uses ignoring kinds words (s .feature) && ltb standard (s .standard)) (s .feature) (lacking ignoring standard kinds words ss)
       (both-first f (leb (featureDetail f) (featureDetail (s .feature))) (ascends f ss) e)
       (lacking-not-less f ss (both-second f (leb (featureDetail f) (featureDetail (s .feature))) (ascends f ss) e))
 
   -- The first feature of the list is lacking,
-  pub lacks-first : (f : Feature) (n : ℕ) (ss : List Since) → ascends f ss ≡ true → (uses kinds words f && ltb standard n) ≡ true
-      → Lacks f ≡ lacking standard kinds words (f since n ∷ ss)
+  pub lacks-first : (f : Feature) (n : ℕ) (ss : List Since) → ascends f ss ≡ true → (uses ignoring kinds words f && ltb standard n) ≡ true
+      → Lacks f ≡ lacking ignoring standard kinds words (f since n ∷ ss)
   unfolding lacking
-  lacks-first f n ss e p = rw p (sym (not-less f (lacking standard kinds words ss) (lacking-not-less f ss e)))
+  lacks-first f n ss e p = rw p (sym (not-less f (lacking ignoring standard kinds words ss) (lacking-not-less f ss e)))
 
   -- or it is not,
-  pub lacks-later : {r : Lack} (f : Feature) (n : ℕ) (ss : List Since) → (uses kinds words f && ltb standard n) ≡ false
-      → r ≡ lacking standard kinds words ss → r ≡ lacking standard kinds words (f since n ∷ ss)
+  pub lacks-later : {r : Lack} (f : Feature) (n : ℕ) (ss : List Since) → (uses ignoring kinds words f && ltb standard n) ≡ false
+      → r ≡ lacking ignoring standard kinds words ss → r ≡ lacking ignoring standard kinds words (f since n ∷ ss)
   unfolding lacking
   lacks-later f n ss p e = rw p e
 
   -- and past the last nothing is.
-  pub lacks-nothing : Nothing ≡ lacking standard kinds words []
+  pub lacks-nothing : Nothing ≡ lacking ignoring standard kinds words []
   unfolding lacking
   lacks-nothing = refl
+
+-- Case is ignored as the code found it.
+pub lacking-as : {r : Lack} {i j : Bool} (standard : ℕ) (kinds words : List ℕ) (ss : List Since) → i ≡ j → r ≡ lacking i standard kinds words ss
+    → r ≡ lacking j standard kinds words ss
+lacking-as standard kinds words ss same e = rw (← same) e

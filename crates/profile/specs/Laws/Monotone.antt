@@ -10,7 +10,7 @@ use lib.Dec.{leb, ltb}
 use Rattle.rows.specs.Notation.{if_then_else_}
 use Rattle.rows.specs.Refusals.{featureDetail}
 use Rattle.rows.specs.declared.answer.Feature.{Feature}
-use Rattle.profile.specs.Profile.{Since, uses, features, least, lacking, missing-feature}
+use Rattle.profile.specs.Profile.{Since, ignores-case, uses, features, least, lacking, missing-feature}
 use Rattle.profile.specs.declared.profile.Lack.{Lack}
 use Rattle.profile.specs.declared.profile.Lack.the-variants.{Nothing, Lacks}
 
@@ -40,13 +40,13 @@ module _ (s s′ : ℕ) (later : s ≤ s′) where
       let has : n ≤ s = ltb-false s n e in
       rw (le-ltb s′ n (omega (arith, has))) (ih p)
 
-  lacking-later : (kinds words : List ℕ) (ss : List Since) → lacking s kinds words ss ≡ Nothing → lacking s′ kinds words ss ≡ Nothing
+  lacking-later : (i : Bool) (kinds words : List ℕ) (ss : List Since) → lacking i s kinds words ss ≡ Nothing → lacking i s′ kinds words ss ≡ Nothing
   unfolding lacking
-  lacking-later kinds words [] p = refl
-  lacking-later kinds words (t ∷ ss) p =
-      one-feature (uses kinds words (t .feature)) (t .feature) (t .standard) (lacking s kinds words ss) (lacking s′ kinds words ss) (lacking-later kinds words ss) (ltb s (t .standard)) refl p
+  lacking-later i kinds words [] p = refl
+  lacking-later i kinds words (t ∷ ss) p =
+      one-feature (uses i kinds words (t .feature)) (t .feature) (t .standard) (lacking i s kinds words ss) (lacking i s′ kinds words ss) (lacking-later i kinds words ss) (ltb s (t .standard)) refl p
 
   -- "The same or any later standard of that language."
   pub nothing-missing-later : (language : ℕ) (kinds words : List ℕ) → missing-feature language s kinds words ≡ Nothing → missing-feature language s′ kinds words ≡ Nothing
   unfolding missing-feature
-  nothing-missing-later language kinds words p = lacking-later kinds words (features language) p
+  nothing-missing-later language kinds words p = lacking-later (ignores-case language) kinds words (features language) p

@@ -14,10 +14,10 @@ use Rattle.profile.proofs.features.has_adjacent_identifiers.Lts as lts
 use Rattle.profile.proofs.features.identifier_is.Reads as identifier-is-reads
 
 abbrev Inv-loop : tie.InvT-loop
-Inv-loop kinds words first second at₀ at = Looking kinds (λ place. identifier-is kinds words place first && identifier-is kinds words (place + 1) second) at
+Inv-loop ignoring kinds words first second at₀ at = Looking kinds (λ place. identifier-is ignoring kinds words place first && identifier-is ignoring kinds words (place + 1) second) at
 
 abbrev μ-loop : tie.MeasureT-loop
-μ-loop kinds words first second at₀ at = length kinds - at
+μ-loop ignoring kinds words first second at₀ at = length kinds - at
 
 loop-holds : tie.Need-loop-holds Inv-loop μ-loop
 loop-holds c = looking-start _ _

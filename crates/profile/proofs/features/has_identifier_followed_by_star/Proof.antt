@@ -15,10 +15,10 @@ use Rattle.profile.proofs.features.identifier_is.Reads as identifier-is
 use Rattle.profile.proofs.features.kind_is.Reads as kind-is-reads
 
 abbrev Inv-loop : tie.InvT-loop
-Inv-loop kinds words name at₀ at = Looking kinds (λ place. identifier-is kinds words place name && kind-is kinds (place + 1) LeftParen && kind-is kinds (place + 2) Star) at
+Inv-loop ignoring kinds words name at₀ at = Looking kinds (λ place. identifier-is ignoring kinds words place name && kind-is kinds (place + 1) LeftParen && kind-is kinds (place + 2) Star) at
 
 abbrev μ-loop : tie.MeasureT-loop
-μ-loop kinds words name at₀ at = length kinds - at
+μ-loop ignoring kinds words name at₀ at = length kinds - at
 
 loop-holds : tie.Need-loop-holds Inv-loop μ-loop
 loop-holds c = looking-start _ _

@@ -14,7 +14,7 @@ use Rattle.profile.proofs.features.has_assumed_rank.Reads as has-assume
 use Rattle.profile.proofs.features.has_identifier_followed_by_star.Reads as has-identifier-followed-by-star-reads
 
 returns : tie.Need-returns
-returns c = is-there (uses (c .before .before .before .args .kinds .now) (c .before .before .before .args .words .now) AssumedTypeOrRank) (c .before .before .before .args .standard) (c .before .before .before .args .since) (omega arith)
+returns c = is-there (uses (c .before .before .before .args .ignoring) (c .before .before .before .args .kinds .now) (c .before .before .before .args .words .now) AssumedTypeOrRank) (c .before .before .before .args .standard) (c .before .before .before .args .since) (omega arith)
 
 has-identifier-followed-by-star-requires : tie.Need-has-identifier-followed-by-star-requires
 has-identifier-followed-by-star-requires c κs = search needs
@@ -24,7 +24,7 @@ has-assumed-rank-requires c κs = search needs
 
 returns-2 : tie.Need-returns-2
 unfolding uses
-returns-2 c = rw (c .before .has-identifier-followed-by-star .ensures, c .has-assumed-rank .ensures) (is-lacking (uses (c .before .before .before .before .before .args .kinds .now) (c .before .before .before .before .before .args .words .now) AssumedTypeOrRank) (c .before .before .before .before .before .args .standard) (c .before .before .before .before .before .args .since) (omega arith))
+returns-2 c = rw (c .before .has-identifier-followed-by-star .ensures, c .has-assumed-rank .ensures) (is-lacking (uses (c .before .before .before .before .before .args .ignoring) (c .before .before .before .before .before .args .kinds .now) (c .before .before .before .before .before .args .words .now) AssumedTypeOrRank) (c .before .before .before .before .before .args .standard) (c .before .before .before .before .before .args .since) (omega arith))
 
 pub lacks-assumed-type-or-rank-spec : {M : Type 1} → statement M
 lacks-assumed-type-or-rank-spec =

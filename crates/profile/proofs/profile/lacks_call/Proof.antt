@@ -12,13 +12,13 @@ use Rattle.profile.proofs.profile.lacks_call.Lts as lts
 use Rattle.profile.proofs.features.has_identifier_call.Reads as has-identifier-call-reads
 
 returns : tie.Need-returns
-returns c = is-there (has-identifier-call (c .before .before .before .args .kinds .now) (c .before .before .before .args .words .now) (c .before .before .before .args .name)) (c .before .before .before .args .standard) (c .before .before .before .args .since) (omega arith)
+returns c = is-there (has-identifier-call (c .before .before .before .args .ignoring) (c .before .before .before .args .kinds .now) (c .before .before .before .args .words .now) (c .before .before .before .args .name)) (c .before .before .before .args .standard) (c .before .before .before .args .since) (omega arith)
 
 has-identifier-call-requires : tie.Need-has-identifier-call-requires
 has-identifier-call-requires c κs = search needs
 
 returns-2 : tie.Need-returns-2
-returns-2 c = c .has-identifier-call .ensures ∙ is-lacking (has-identifier-call (c .before .before .before .before .args .kinds .now) (c .before .before .before .before .args .words .now) (c .before .before .before .before .args .name)) (c .before .before .before .before .args .standard) (c .before .before .before .before .args .since) (omega arith)
+returns-2 c = c .has-identifier-call .ensures ∙ is-lacking (has-identifier-call (c .before .before .before .before .args .ignoring) (c .before .before .before .before .args .kinds .now) (c .before .before .before .before .args .words .now) (c .before .before .before .before .args .name)) (c .before .before .before .before .args .standard) (c .before .before .before .before .args .since) (omega arith)
 
 pub lacks-call-spec : {M : Type 1} → statement M
 lacks-call-spec = tie.close (tie.spec returns has-identifier-call-requires returns-2)

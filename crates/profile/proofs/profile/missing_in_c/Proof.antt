@@ -20,39 +20,39 @@ lacks-long-long-requires c κs = search needs
 
 returns : tie.Need-returns
 unfolding features uses ascends
-returns c = lacks-first (c .before .before .before .before .args .standard) (c .before .before .before .before .args .kinds .now) (c .before .before .before .before .args .words .now) LongLong C99 (Atomic since C11 ∷ BitInt since C23 ∷ Typeof since C23 ∷ TypeofUnqual since C23 ∷ []) refl (sym (c .before .lacks-long-long .ensures) ∙ c .if1 .taken)
+returns c = lacks-first (c .before .before .before .before .args .ignoring) (c .before .before .before .before .args .standard) (c .before .before .before .before .args .kinds .now) (c .before .before .before .before .args .words .now) LongLong C99 (Atomic since C11 ∷ BitInt since C23 ∷ Typeof since C23 ∷ TypeofUnqual since C23 ∷ []) refl (sym (c .before .lacks-long-long .ensures) ∙ c .if1 .taken)
 
 lacks-call-requires : tie.Need-lacks-call-requires
 lacks-call-requires c κs = search needs
 
 returns-2 : tie.Need-returns-2
 unfolding features uses ascends
-returns-2 c = lacks-later (c .before .before .before .before .before .before .args .standard) (c .before .before .before .before .before .before .args .kinds .now) (c .before .before .before .before .before .before .args .words .now) LongLong C99 (Atomic since C11 ∷ BitInt since C23 ∷ Typeof since C23 ∷ TypeofUnqual since C23 ∷ []) (sym (c .before .before .before .lacks-long-long .ensures) ∙ c .before .before .if1 .left) (lacks-first (c .before .before .before .before .before .before .args .standard) (c .before .before .before .before .before .before .args .kinds .now) (c .before .before .before .before .before .before .args .words .now) Atomic C11 (BitInt since C23 ∷ Typeof since C23 ∷ TypeofUnqual since C23 ∷ []) refl (sym (c .before .lacks-call .ensures) ∙ c .if2 .taken))
+returns-2 c = lacks-later (c .before .before .before .before .before .before .args .ignoring) (c .before .before .before .before .before .before .args .standard) (c .before .before .before .before .before .before .args .kinds .now) (c .before .before .before .before .before .before .args .words .now) LongLong C99 (Atomic since C11 ∷ BitInt since C23 ∷ Typeof since C23 ∷ TypeofUnqual since C23 ∷ []) (sym (c .before .before .before .lacks-long-long .ensures) ∙ c .before .before .if1 .left) (lacks-first (c .before .before .before .before .before .before .args .ignoring) (c .before .before .before .before .before .before .args .standard) (c .before .before .before .before .before .before .args .kinds .now) (c .before .before .before .before .before .before .args .words .now) Atomic C11 (BitInt since C23 ∷ Typeof since C23 ∷ TypeofUnqual since C23 ∷ []) refl (sym (c .before .lacks-call .ensures) ∙ c .if2 .taken))
 
 lacks-call-requires-2 : tie.Need-lacks-call-requires-2
 lacks-call-requires-2 c κs = search needs
 
 returns-3 : tie.Need-returns-3
 unfolding features uses ascends
-returns-3 c = lacks-later (c .before .before .before .before .before .before .before .before .args .standard) (c .before .before .before .before .before .before .before .before .args .kinds .now) (c .before .before .before .before .before .before .before .before .args .words .now) LongLong C99 (Atomic since C11 ∷ BitInt since C23 ∷ Typeof since C23 ∷ TypeofUnqual since C23 ∷ []) (sym (c .before .before .before .before .before .lacks-long-long .ensures) ∙ c .before .before .before .before .if1 .left) (lacks-later (c .before .before .before .before .before .before .before .before .args .standard) (c .before .before .before .before .before .before .before .before .args .kinds .now) (c .before .before .before .before .before .before .before .before .args .words .now) Atomic C11 (BitInt since C23 ∷ Typeof since C23 ∷ TypeofUnqual since C23 ∷ []) (sym (c .before .before .before .lacks-call .ensures) ∙ c .before .before .if2 .left) (lacks-first (c .before .before .before .before .before .before .before .before .args .standard) (c .before .before .before .before .before .before .before .before .args .kinds .now) (c .before .before .before .before .before .before .before .before .args .words .now) BitInt C23 (Typeof since C23 ∷ TypeofUnqual since C23 ∷ []) refl (sym (c .before .lacks-call2 .ensures) ∙ c .if3 .taken)))
+returns-3 c = lacks-later (c .before .before .before .before .before .before .before .before .args .ignoring) (c .before .before .before .before .before .before .before .before .args .standard) (c .before .before .before .before .before .before .before .before .args .kinds .now) (c .before .before .before .before .before .before .before .before .args .words .now) LongLong C99 (Atomic since C11 ∷ BitInt since C23 ∷ Typeof since C23 ∷ TypeofUnqual since C23 ∷ []) (sym (c .before .before .before .before .before .lacks-long-long .ensures) ∙ c .before .before .before .before .if1 .left) (lacks-later (c .before .before .before .before .before .before .before .before .args .ignoring) (c .before .before .before .before .before .before .before .before .args .standard) (c .before .before .before .before .before .before .before .before .args .kinds .now) (c .before .before .before .before .before .before .before .before .args .words .now) Atomic C11 (BitInt since C23 ∷ Typeof since C23 ∷ TypeofUnqual since C23 ∷ []) (sym (c .before .before .before .lacks-call .ensures) ∙ c .before .before .if2 .left) (lacks-first (c .before .before .before .before .before .before .before .before .args .ignoring) (c .before .before .before .before .before .before .before .before .args .standard) (c .before .before .before .before .before .before .before .before .args .kinds .now) (c .before .before .before .before .before .before .before .before .args .words .now) BitInt C23 (Typeof since C23 ∷ TypeofUnqual since C23 ∷ []) refl (sym (c .before .lacks-call2 .ensures) ∙ c .if3 .taken)))
 
 lacks-call-requires-3 : tie.Need-lacks-call-requires-3
 lacks-call-requires-3 c κs = search needs
 
 returns-4 : tie.Need-returns-4
 unfolding features uses ascends
-returns-4 c = lacks-later (c .before .before .before .before .before .before .before .before .before .before .args .standard) (c .before .before .before .before .before .before .before .before .before .before .args .kinds .now) (c .before .before .before .before .before .before .before .before .before .before .args .words .now) LongLong C99 (Atomic since C11 ∷ BitInt since C23 ∷ Typeof since C23 ∷ TypeofUnqual since C23 ∷ []) (sym (c .before .before .before .before .before .before .before .lacks-long-long .ensures) ∙ c .before .before .before .before .before .before .if1 .left) (lacks-later (c .before .before .before .before .before .before .before .before .before .before .args .standard) (c .before .before .before .before .before .before .before .before .before .before .args .kinds .now) (c .before .before .before .before .before .before .before .before .before .before .args .words .now) Atomic C11 (BitInt since C23 ∷ Typeof since C23 ∷ TypeofUnqual since C23 ∷ []) (sym (c .before .before .before .before .before .lacks-call .ensures) ∙ c .before .before .before .before .if2 .left) (lacks-later (c .before .before .before .before .before .before .before .before .before .before .args .standard) (c .before .before .before .before .before .before .before .before .before .before .args .kinds .now) (c .before .before .before .before .before .before .before .before .before .before .args .words .now) BitInt C23 (Typeof since C23 ∷ TypeofUnqual since C23 ∷ []) (sym (c .before .before .before .lacks-call2 .ensures) ∙ c .before .before .if3 .left) (lacks-first (c .before .before .before .before .before .before .before .before .before .before .args .standard) (c .before .before .before .before .before .before .before .before .before .before .args .kinds .now) (c .before .before .before .before .before .before .before .before .before .before .args .words .now) Typeof C23 (TypeofUnqual since C23 ∷ []) refl (sym (c .before .lacks-call3 .ensures) ∙ c .if4 .taken))))
+returns-4 c = lacks-later (c .before .before .before .before .before .before .before .before .before .before .args .ignoring) (c .before .before .before .before .before .before .before .before .before .before .args .standard) (c .before .before .before .before .before .before .before .before .before .before .args .kinds .now) (c .before .before .before .before .before .before .before .before .before .before .args .words .now) LongLong C99 (Atomic since C11 ∷ BitInt since C23 ∷ Typeof since C23 ∷ TypeofUnqual since C23 ∷ []) (sym (c .before .before .before .before .before .before .before .lacks-long-long .ensures) ∙ c .before .before .before .before .before .before .if1 .left) (lacks-later (c .before .before .before .before .before .before .before .before .before .before .args .ignoring) (c .before .before .before .before .before .before .before .before .before .before .args .standard) (c .before .before .before .before .before .before .before .before .before .before .args .kinds .now) (c .before .before .before .before .before .before .before .before .before .before .args .words .now) Atomic C11 (BitInt since C23 ∷ Typeof since C23 ∷ TypeofUnqual since C23 ∷ []) (sym (c .before .before .before .before .before .lacks-call .ensures) ∙ c .before .before .before .before .if2 .left) (lacks-later (c .before .before .before .before .before .before .before .before .before .before .args .ignoring) (c .before .before .before .before .before .before .before .before .before .before .args .standard) (c .before .before .before .before .before .before .before .before .before .before .args .kinds .now) (c .before .before .before .before .before .before .before .before .before .before .args .words .now) BitInt C23 (Typeof since C23 ∷ TypeofUnqual since C23 ∷ []) (sym (c .before .before .before .lacks-call2 .ensures) ∙ c .before .before .if3 .left) (lacks-first (c .before .before .before .before .before .before .before .before .before .before .args .ignoring) (c .before .before .before .before .before .before .before .before .before .before .args .standard) (c .before .before .before .before .before .before .before .before .before .before .args .kinds .now) (c .before .before .before .before .before .before .before .before .before .before .args .words .now) Typeof C23 (TypeofUnqual since C23 ∷ []) refl (sym (c .before .lacks-call3 .ensures) ∙ c .if4 .taken))))
 
 lacks-call-requires-4 : tie.Need-lacks-call-requires-4
 lacks-call-requires-4 c κs = search needs
 
 returns-5 : tie.Need-returns-5
 unfolding features uses ascends
-returns-5 c = lacks-later (c .before .before .before .before .before .before .before .before .before .before .before .before .args .standard) (c .before .before .before .before .before .before .before .before .before .before .before .before .args .kinds .now) (c .before .before .before .before .before .before .before .before .before .before .before .before .args .words .now) LongLong C99 (Atomic since C11 ∷ BitInt since C23 ∷ Typeof since C23 ∷ TypeofUnqual since C23 ∷ []) (sym (c .before .before .before .before .before .before .before .before .before .lacks-long-long .ensures) ∙ c .before .before .before .before .before .before .before .before .if1 .left) (lacks-later (c .before .before .before .before .before .before .before .before .before .before .before .before .args .standard) (c .before .before .before .before .before .before .before .before .before .before .before .before .args .kinds .now) (c .before .before .before .before .before .before .before .before .before .before .before .before .args .words .now) Atomic C11 (BitInt since C23 ∷ Typeof since C23 ∷ TypeofUnqual since C23 ∷ []) (sym (c .before .before .before .before .before .before .before .lacks-call .ensures) ∙ c .before .before .before .before .before .before .if2 .left) (lacks-later (c .before .before .before .before .before .before .before .before .before .before .before .before .args .standard) (c .before .before .before .before .before .before .before .before .before .before .before .before .args .kinds .now) (c .before .before .before .before .before .before .before .before .before .before .before .before .args .words .now) BitInt C23 (Typeof since C23 ∷ TypeofUnqual since C23 ∷ []) (sym (c .before .before .before .before .before .lacks-call2 .ensures) ∙ c .before .before .before .before .if3 .left) (lacks-later (c .before .before .before .before .before .before .before .before .before .before .before .before .args .standard) (c .before .before .before .before .before .before .before .before .before .before .before .before .args .kinds .now) (c .before .before .before .before .before .before .before .before .before .before .before .before .args .words .now) Typeof C23 (TypeofUnqual since C23 ∷ []) (sym (c .before .before .before .lacks-call3 .ensures) ∙ c .before .before .if4 .left) (lacks-first (c .before .before .before .before .before .before .before .before .before .before .before .before .args .standard) (c .before .before .before .before .before .before .before .before .before .before .before .before .args .kinds .now) (c .before .before .before .before .before .before .before .before .before .before .before .before .args .words .now) TypeofUnqual C23 [] refl (sym (c .before .lacks-call4 .ensures) ∙ c .if5 .taken)))))
+returns-5 c = lacks-later (c .before .before .before .before .before .before .before .before .before .before .before .before .args .ignoring) (c .before .before .before .before .before .before .before .before .before .before .before .before .args .standard) (c .before .before .before .before .before .before .before .before .before .before .before .before .args .kinds .now) (c .before .before .before .before .before .before .before .before .before .before .before .before .args .words .now) LongLong C99 (Atomic since C11 ∷ BitInt since C23 ∷ Typeof since C23 ∷ TypeofUnqual since C23 ∷ []) (sym (c .before .before .before .before .before .before .before .before .before .lacks-long-long .ensures) ∙ c .before .before .before .before .before .before .before .before .if1 .left) (lacks-later (c .before .before .before .before .before .before .before .before .before .before .before .before .args .ignoring) (c .before .before .before .before .before .before .before .before .before .before .before .before .args .standard) (c .before .before .before .before .before .before .before .before .before .before .before .before .args .kinds .now) (c .before .before .before .before .before .before .before .before .before .before .before .before .args .words .now) Atomic C11 (BitInt since C23 ∷ Typeof since C23 ∷ TypeofUnqual since C23 ∷ []) (sym (c .before .before .before .before .before .before .before .lacks-call .ensures) ∙ c .before .before .before .before .before .before .if2 .left) (lacks-later (c .before .before .before .before .before .before .before .before .before .before .before .before .args .ignoring) (c .before .before .before .before .before .before .before .before .before .before .before .before .args .standard) (c .before .before .before .before .before .before .before .before .before .before .before .before .args .kinds .now) (c .before .before .before .before .before .before .before .before .before .before .before .before .args .words .now) BitInt C23 (Typeof since C23 ∷ TypeofUnqual since C23 ∷ []) (sym (c .before .before .before .before .before .lacks-call2 .ensures) ∙ c .before .before .before .before .if3 .left) (lacks-later (c .before .before .before .before .before .before .before .before .before .before .before .before .args .ignoring) (c .before .before .before .before .before .before .before .before .before .before .before .before .args .standard) (c .before .before .before .before .before .before .before .before .before .before .before .before .args .kinds .now) (c .before .before .before .before .before .before .before .before .before .before .before .before .args .words .now) Typeof C23 (TypeofUnqual since C23 ∷ []) (sym (c .before .before .before .lacks-call3 .ensures) ∙ c .before .before .if4 .left) (lacks-first (c .before .before .before .before .before .before .before .before .before .before .before .before .args .ignoring) (c .before .before .before .before .before .before .before .before .before .before .before .before .args .standard) (c .before .before .before .before .before .before .before .before .before .before .before .before .args .kinds .now) (c .before .before .before .before .before .before .before .before .before .before .before .before .args .words .now) TypeofUnqual C23 [] refl (sym (c .before .lacks-call4 .ensures) ∙ c .if5 .taken)))))
 
 returns-6 : tie.Need-returns-6
 unfolding features uses ascends
-returns-6 c = lacks-later (c .before .before .before .before .before .before .before .before .before .before .before .before .args .standard) (c .before .before .before .before .before .before .before .before .before .before .before .before .args .kinds .now) (c .before .before .before .before .before .before .before .before .before .before .before .before .args .words .now) LongLong C99 (Atomic since C11 ∷ BitInt since C23 ∷ Typeof since C23 ∷ TypeofUnqual since C23 ∷ []) (sym (c .before .before .before .before .before .before .before .before .before .lacks-long-long .ensures) ∙ c .before .before .before .before .before .before .before .before .if1 .left) (lacks-later (c .before .before .before .before .before .before .before .before .before .before .before .before .args .standard) (c .before .before .before .before .before .before .before .before .before .before .before .before .args .kinds .now) (c .before .before .before .before .before .before .before .before .before .before .before .before .args .words .now) Atomic C11 (BitInt since C23 ∷ Typeof since C23 ∷ TypeofUnqual since C23 ∷ []) (sym (c .before .before .before .before .before .before .before .lacks-call .ensures) ∙ c .before .before .before .before .before .before .if2 .left) (lacks-later (c .before .before .before .before .before .before .before .before .before .before .before .before .args .standard) (c .before .before .before .before .before .before .before .before .before .before .before .before .args .kinds .now) (c .before .before .before .before .before .before .before .before .before .before .before .before .args .words .now) BitInt C23 (Typeof since C23 ∷ TypeofUnqual since C23 ∷ []) (sym (c .before .before .before .before .before .lacks-call2 .ensures) ∙ c .before .before .before .before .if3 .left) (lacks-later (c .before .before .before .before .before .before .before .before .before .before .before .before .args .standard) (c .before .before .before .before .before .before .before .before .before .before .before .before .args .kinds .now) (c .before .before .before .before .before .before .before .before .before .before .before .before .args .words .now) Typeof C23 (TypeofUnqual since C23 ∷ []) (sym (c .before .before .before .lacks-call3 .ensures) ∙ c .before .before .if4 .left) (lacks-later (c .before .before .before .before .before .before .before .before .before .before .before .before .args .standard) (c .before .before .before .before .before .before .before .before .before .before .before .before .args .kinds .now) (c .before .before .before .before .before .before .before .before .before .before .before .before .args .words .now) TypeofUnqual C23 [] (sym (c .before .lacks-call4 .ensures) ∙ c .if5 .left) (lacks-nothing (c .before .before .before .before .before .before .before .before .before .before .before .before .args .standard) (c .before .before .before .before .before .before .before .before .before .before .before .before .args .kinds .now) (c .before .before .before .before .before .before .before .before .before .before .before .before .args .words .now))))))
+returns-6 c = lacks-later (c .before .before .before .before .before .before .before .before .before .before .before .before .args .ignoring) (c .before .before .before .before .before .before .before .before .before .before .before .before .args .standard) (c .before .before .before .before .before .before .before .before .before .before .before .before .args .kinds .now) (c .before .before .before .before .before .before .before .before .before .before .before .before .args .words .now) LongLong C99 (Atomic since C11 ∷ BitInt since C23 ∷ Typeof since C23 ∷ TypeofUnqual since C23 ∷ []) (sym (c .before .before .before .before .before .before .before .before .before .lacks-long-long .ensures) ∙ c .before .before .before .before .before .before .before .before .if1 .left) (lacks-later (c .before .before .before .before .before .before .before .before .before .before .before .before .args .ignoring) (c .before .before .before .before .before .before .before .before .before .before .before .before .args .standard) (c .before .before .before .before .before .before .before .before .before .before .before .before .args .kinds .now) (c .before .before .before .before .before .before .before .before .before .before .before .before .args .words .now) Atomic C11 (BitInt since C23 ∷ Typeof since C23 ∷ TypeofUnqual since C23 ∷ []) (sym (c .before .before .before .before .before .before .before .lacks-call .ensures) ∙ c .before .before .before .before .before .before .if2 .left) (lacks-later (c .before .before .before .before .before .before .before .before .before .before .before .before .args .ignoring) (c .before .before .before .before .before .before .before .before .before .before .before .before .args .standard) (c .before .before .before .before .before .before .before .before .before .before .before .before .args .kinds .now) (c .before .before .before .before .before .before .before .before .before .before .before .before .args .words .now) BitInt C23 (Typeof since C23 ∷ TypeofUnqual since C23 ∷ []) (sym (c .before .before .before .before .before .lacks-call2 .ensures) ∙ c .before .before .before .before .if3 .left) (lacks-later (c .before .before .before .before .before .before .before .before .before .before .before .before .args .ignoring) (c .before .before .before .before .before .before .before .before .before .before .before .before .args .standard) (c .before .before .before .before .before .before .before .before .before .before .before .before .args .kinds .now) (c .before .before .before .before .before .before .before .before .before .before .before .before .args .words .now) Typeof C23 (TypeofUnqual since C23 ∷ []) (sym (c .before .before .before .lacks-call3 .ensures) ∙ c .before .before .if4 .left) (lacks-later (c .before .before .before .before .before .before .before .before .before .before .before .before .args .ignoring) (c .before .before .before .before .before .before .before .before .before .before .before .before .args .standard) (c .before .before .before .before .before .before .before .before .before .before .before .before .args .kinds .now) (c .before .before .before .before .before .before .before .before .before .before .before .before .args .words .now) TypeofUnqual C23 [] (sym (c .before .lacks-call4 .ensures) ∙ c .if5 .left) (lacks-nothing (c .before .before .before .before .before .before .before .before .before .before .before .before .args .ignoring) (c .before .before .before .before .before .before .before .before .before .before .before .before .args .standard) (c .before .before .before .before .before .before .before .before .before .before .before .before .args .kinds .now) (c .before .before .before .before .before .before .before .before .before .before .before .before .args .words .now))))))
 
 pub missing-in-c-spec : {M : Type 1} → statement M
 missing-in-c-spec =

@@ -21,25 +21,25 @@ lacks-long-long-requires c κs = search needs
 
 returns : tie.Need-returns
 unfolding features uses ascends
-returns c = lacks-first (c .before .before .before .before .args .standard) (c .before .before .before .before .args .kinds .now) (c .before .before .before .before .args .words .now) LongLong Cpp11 (Decltype since Cpp11 ∷ RvalueReference since Cpp11 ∷ []) refl (sym (c .before .lacks-long-long .ensures) ∙ c .if1 .taken)
+returns c = lacks-first (c .before .before .before .before .args .ignoring) (c .before .before .before .before .args .standard) (c .before .before .before .before .args .kinds .now) (c .before .before .before .before .args .words .now) LongLong Cpp11 (Decltype since Cpp11 ∷ RvalueReference since Cpp11 ∷ []) refl (sym (c .before .lacks-long-long .ensures) ∙ c .if1 .taken)
 
 lacks-call-requires : tie.Need-lacks-call-requires
 lacks-call-requires c κs = search needs
 
 returns-2 : tie.Need-returns-2
 unfolding features uses ascends
-returns-2 c = lacks-later (c .before .before .before .before .before .before .args .standard) (c .before .before .before .before .before .before .args .kinds .now) (c .before .before .before .before .before .before .args .words .now) LongLong Cpp11 (Decltype since Cpp11 ∷ RvalueReference since Cpp11 ∷ []) (sym (c .before .before .before .lacks-long-long .ensures) ∙ c .before .before .if1 .left) (lacks-first (c .before .before .before .before .before .before .args .standard) (c .before .before .before .before .before .before .args .kinds .now) (c .before .before .before .before .before .before .args .words .now) Decltype Cpp11 (RvalueReference since Cpp11 ∷ []) refl (sym (c .before .lacks-call .ensures) ∙ c .if2 .taken))
+returns-2 c = lacks-later (c .before .before .before .before .before .before .args .ignoring) (c .before .before .before .before .before .before .args .standard) (c .before .before .before .before .before .before .args .kinds .now) (c .before .before .before .before .before .before .args .words .now) LongLong Cpp11 (Decltype since Cpp11 ∷ RvalueReference since Cpp11 ∷ []) (sym (c .before .before .before .lacks-long-long .ensures) ∙ c .before .before .if1 .left) (lacks-first (c .before .before .before .before .before .before .args .ignoring) (c .before .before .before .before .before .before .args .standard) (c .before .before .before .before .before .before .args .kinds .now) (c .before .before .before .before .before .before .args .words .now) Decltype Cpp11 (RvalueReference since Cpp11 ∷ []) refl (sym (c .before .lacks-call .ensures) ∙ c .if2 .taken))
 
 lacks-kind-requires : tie.Need-lacks-kind-requires
 lacks-kind-requires c κs = search needs
 
 returns-3 : tie.Need-returns-3
 unfolding features uses ascends
-returns-3 c = lacks-later (c .before .before .before .before .before .before .before .before .args .standard) (c .before .before .before .before .before .before .before .before .args .kinds .now) (c .before .before .before .before .before .before .before .before .args .words .now) LongLong Cpp11 (Decltype since Cpp11 ∷ RvalueReference since Cpp11 ∷ []) (sym (c .before .before .before .before .before .lacks-long-long .ensures) ∙ c .before .before .before .before .if1 .left) (lacks-later (c .before .before .before .before .before .before .before .before .args .standard) (c .before .before .before .before .before .before .before .before .args .kinds .now) (c .before .before .before .before .before .before .before .before .args .words .now) Decltype Cpp11 (RvalueReference since Cpp11 ∷ []) (sym (c .before .before .before .lacks-call .ensures) ∙ c .before .before .if2 .left) (lacks-first (c .before .before .before .before .before .before .before .before .args .standard) (c .before .before .before .before .before .before .before .before .args .kinds .now) (c .before .before .before .before .before .before .before .before .args .words .now) RvalueReference Cpp11 [] refl (sym (c .before .lacks-kind .ensures) ∙ c .if3 .taken)))
+returns-3 c = lacks-later (c .before .before .before .before .before .before .before .before .args .ignoring) (c .before .before .before .before .before .before .before .before .args .standard) (c .before .before .before .before .before .before .before .before .args .kinds .now) (c .before .before .before .before .before .before .before .before .args .words .now) LongLong Cpp11 (Decltype since Cpp11 ∷ RvalueReference since Cpp11 ∷ []) (sym (c .before .before .before .before .before .lacks-long-long .ensures) ∙ c .before .before .before .before .if1 .left) (lacks-later (c .before .before .before .before .before .before .before .before .args .ignoring) (c .before .before .before .before .before .before .before .before .args .standard) (c .before .before .before .before .before .before .before .before .args .kinds .now) (c .before .before .before .before .before .before .before .before .args .words .now) Decltype Cpp11 (RvalueReference since Cpp11 ∷ []) (sym (c .before .before .before .lacks-call .ensures) ∙ c .before .before .if2 .left) (lacks-first (c .before .before .before .before .before .before .before .before .args .ignoring) (c .before .before .before .before .before .before .before .before .args .standard) (c .before .before .before .before .before .before .before .before .args .kinds .now) (c .before .before .before .before .before .before .before .before .args .words .now) RvalueReference Cpp11 [] refl (sym (c .before .lacks-kind .ensures) ∙ c .if3 .taken)))
 
 returns-4 : tie.Need-returns-4
 unfolding features uses ascends
-returns-4 c = lacks-later (c .before .before .before .before .before .before .before .before .args .standard) (c .before .before .before .before .before .before .before .before .args .kinds .now) (c .before .before .before .before .before .before .before .before .args .words .now) LongLong Cpp11 (Decltype since Cpp11 ∷ RvalueReference since Cpp11 ∷ []) (sym (c .before .before .before .before .before .lacks-long-long .ensures) ∙ c .before .before .before .before .if1 .left) (lacks-later (c .before .before .before .before .before .before .before .before .args .standard) (c .before .before .before .before .before .before .before .before .args .kinds .now) (c .before .before .before .before .before .before .before .before .args .words .now) Decltype Cpp11 (RvalueReference since Cpp11 ∷ []) (sym (c .before .before .before .lacks-call .ensures) ∙ c .before .before .if2 .left) (lacks-later (c .before .before .before .before .before .before .before .before .args .standard) (c .before .before .before .before .before .before .before .before .args .kinds .now) (c .before .before .before .before .before .before .before .before .args .words .now) RvalueReference Cpp11 [] (sym (c .before .lacks-kind .ensures) ∙ c .if3 .left) (lacks-nothing (c .before .before .before .before .before .before .before .before .args .standard) (c .before .before .before .before .before .before .before .before .args .kinds .now) (c .before .before .before .before .before .before .before .before .args .words .now))))
+returns-4 c = lacks-later (c .before .before .before .before .before .before .before .before .args .ignoring) (c .before .before .before .before .before .before .before .before .args .standard) (c .before .before .before .before .before .before .before .before .args .kinds .now) (c .before .before .before .before .before .before .before .before .args .words .now) LongLong Cpp11 (Decltype since Cpp11 ∷ RvalueReference since Cpp11 ∷ []) (sym (c .before .before .before .before .before .lacks-long-long .ensures) ∙ c .before .before .before .before .if1 .left) (lacks-later (c .before .before .before .before .before .before .before .before .args .ignoring) (c .before .before .before .before .before .before .before .before .args .standard) (c .before .before .before .before .before .before .before .before .args .kinds .now) (c .before .before .before .before .before .before .before .before .args .words .now) Decltype Cpp11 (RvalueReference since Cpp11 ∷ []) (sym (c .before .before .before .lacks-call .ensures) ∙ c .before .before .if2 .left) (lacks-later (c .before .before .before .before .before .before .before .before .args .ignoring) (c .before .before .before .before .before .before .before .before .args .standard) (c .before .before .before .before .before .before .before .before .args .kinds .now) (c .before .before .before .before .before .before .before .before .args .words .now) RvalueReference Cpp11 [] (sym (c .before .lacks-kind .ensures) ∙ c .if3 .left) (lacks-nothing (c .before .before .before .before .before .before .before .before .args .ignoring) (c .before .before .before .before .before .before .before .before .args .standard) (c .before .before .before .before .before .before .before .before .args .kinds .now) (c .before .before .before .before .before .before .before .before .args .words .now))))
 
 pub missing-in-cpp-spec : {M : Type 1} → statement M
 missing-in-cpp-spec =

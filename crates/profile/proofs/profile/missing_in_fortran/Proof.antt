@@ -21,32 +21,32 @@ lacks-kind-requires c κs = search needs
 
 returns : tie.Need-returns
 unfolding features uses ascends
-returns c = lacks-first (c .before .before .before .before .args .standard) (c .before .before .before .before .args .kinds .now) (c .before .before .before .before .args .words .now) Selector Fortran90 (DerivedType since Fortran90 ∷ Class since Fortran2003 ∷ AssumedTypeOrRank since Fortran2018 ∷ []) refl (sym (c .before .lacks-kind .ensures) ∙ c .if1 .taken)
+returns c = lacks-first (c .before .before .before .before .args .ignoring) (c .before .before .before .before .args .standard) (c .before .before .before .before .args .kinds .now) (c .before .before .before .before .args .words .now) Selector Fortran90 (DerivedType since Fortran90 ∷ Class since Fortran2003 ∷ AssumedTypeOrRank since Fortran2018 ∷ []) refl (sym (c .before .lacks-kind .ensures) ∙ c .if1 .taken)
 
 lacks-call-requires : tie.Need-lacks-call-requires
 lacks-call-requires c κs = search needs
 
 returns-2 : tie.Need-returns-2
 unfolding features uses ascends
-returns-2 c = lacks-later (c .before .before .before .before .before .before .args .standard) (c .before .before .before .before .before .before .args .kinds .now) (c .before .before .before .before .before .before .args .words .now) Selector Fortran90 (DerivedType since Fortran90 ∷ Class since Fortran2003 ∷ AssumedTypeOrRank since Fortran2018 ∷ []) (sym (c .before .before .before .lacks-kind .ensures) ∙ c .before .before .if1 .left) (lacks-first (c .before .before .before .before .before .before .args .standard) (c .before .before .before .before .before .before .args .kinds .now) (c .before .before .before .before .before .before .args .words .now) DerivedType Fortran90 (Class since Fortran2003 ∷ AssumedTypeOrRank since Fortran2018 ∷ []) refl (sym (c .before .lacks-call .ensures) ∙ c .if2 .taken))
+returns-2 c = lacks-later (c .before .before .before .before .before .before .args .ignoring) (c .before .before .before .before .before .before .args .standard) (c .before .before .before .before .before .before .args .kinds .now) (c .before .before .before .before .before .before .args .words .now) Selector Fortran90 (DerivedType since Fortran90 ∷ Class since Fortran2003 ∷ AssumedTypeOrRank since Fortran2018 ∷ []) (sym (c .before .before .before .lacks-kind .ensures) ∙ c .before .before .if1 .left) (lacks-first (c .before .before .before .before .before .before .args .ignoring) (c .before .before .before .before .before .before .args .standard) (c .before .before .before .before .before .before .args .kinds .now) (c .before .before .before .before .before .before .args .words .now) DerivedType Fortran90 (Class since Fortran2003 ∷ AssumedTypeOrRank since Fortran2018 ∷ []) refl (sym (c .before .lacks-call .ensures) ∙ c .if2 .taken))
 
 lacks-call-requires-2 : tie.Need-lacks-call-requires-2
 lacks-call-requires-2 c κs = search needs
 
 returns-3 : tie.Need-returns-3
 unfolding features uses ascends
-returns-3 c = lacks-later (c .before .before .before .before .before .before .before .before .args .standard) (c .before .before .before .before .before .before .before .before .args .kinds .now) (c .before .before .before .before .before .before .before .before .args .words .now) Selector Fortran90 (DerivedType since Fortran90 ∷ Class since Fortran2003 ∷ AssumedTypeOrRank since Fortran2018 ∷ []) (sym (c .before .before .before .before .before .lacks-kind .ensures) ∙ c .before .before .before .before .if1 .left) (lacks-later (c .before .before .before .before .before .before .before .before .args .standard) (c .before .before .before .before .before .before .before .before .args .kinds .now) (c .before .before .before .before .before .before .before .before .args .words .now) DerivedType Fortran90 (Class since Fortran2003 ∷ AssumedTypeOrRank since Fortran2018 ∷ []) (sym (c .before .before .before .lacks-call .ensures) ∙ c .before .before .if2 .left) (lacks-first (c .before .before .before .before .before .before .before .before .args .standard) (c .before .before .before .before .before .before .before .before .args .kinds .now) (c .before .before .before .before .before .before .before .before .args .words .now) Class Fortran2003 (AssumedTypeOrRank since Fortran2018 ∷ []) refl (sym (c .before .lacks-call2 .ensures) ∙ c .if3 .taken)))
+returns-3 c = lacks-later (c .before .before .before .before .before .before .before .before .args .ignoring) (c .before .before .before .before .before .before .before .before .args .standard) (c .before .before .before .before .before .before .before .before .args .kinds .now) (c .before .before .before .before .before .before .before .before .args .words .now) Selector Fortran90 (DerivedType since Fortran90 ∷ Class since Fortran2003 ∷ AssumedTypeOrRank since Fortran2018 ∷ []) (sym (c .before .before .before .before .before .lacks-kind .ensures) ∙ c .before .before .before .before .if1 .left) (lacks-later (c .before .before .before .before .before .before .before .before .args .ignoring) (c .before .before .before .before .before .before .before .before .args .standard) (c .before .before .before .before .before .before .before .before .args .kinds .now) (c .before .before .before .before .before .before .before .before .args .words .now) DerivedType Fortran90 (Class since Fortran2003 ∷ AssumedTypeOrRank since Fortran2018 ∷ []) (sym (c .before .before .before .lacks-call .ensures) ∙ c .before .before .if2 .left) (lacks-first (c .before .before .before .before .before .before .before .before .args .ignoring) (c .before .before .before .before .before .before .before .before .args .standard) (c .before .before .before .before .before .before .before .before .args .kinds .now) (c .before .before .before .before .before .before .before .before .args .words .now) Class Fortran2003 (AssumedTypeOrRank since Fortran2018 ∷ []) refl (sym (c .before .lacks-call2 .ensures) ∙ c .if3 .taken)))
 
 lacks-assumed-type-or-rank-requires : tie.Need-lacks-assumed-type-or-rank-requires
 lacks-assumed-type-or-rank-requires c κs = search needs
 
 returns-4 : tie.Need-returns-4
 unfolding features uses ascends
-returns-4 c = lacks-later (c .before .before .before .before .before .before .before .before .before .before .args .standard) (c .before .before .before .before .before .before .before .before .before .before .args .kinds .now) (c .before .before .before .before .before .before .before .before .before .before .args .words .now) Selector Fortran90 (DerivedType since Fortran90 ∷ Class since Fortran2003 ∷ AssumedTypeOrRank since Fortran2018 ∷ []) (sym (c .before .before .before .before .before .before .before .lacks-kind .ensures) ∙ c .before .before .before .before .before .before .if1 .left) (lacks-later (c .before .before .before .before .before .before .before .before .before .before .args .standard) (c .before .before .before .before .before .before .before .before .before .before .args .kinds .now) (c .before .before .before .before .before .before .before .before .before .before .args .words .now) DerivedType Fortran90 (Class since Fortran2003 ∷ AssumedTypeOrRank since Fortran2018 ∷ []) (sym (c .before .before .before .before .before .lacks-call .ensures) ∙ c .before .before .before .before .if2 .left) (lacks-later (c .before .before .before .before .before .before .before .before .before .before .args .standard) (c .before .before .before .before .before .before .before .before .before .before .args .kinds .now) (c .before .before .before .before .before .before .before .before .before .before .args .words .now) Class Fortran2003 (AssumedTypeOrRank since Fortran2018 ∷ []) (sym (c .before .before .before .lacks-call2 .ensures) ∙ c .before .before .if3 .left) (lacks-first (c .before .before .before .before .before .before .before .before .before .before .args .standard) (c .before .before .before .before .before .before .before .before .before .before .args .kinds .now) (c .before .before .before .before .before .before .before .before .before .before .args .words .now) AssumedTypeOrRank Fortran2018 [] refl (sym (c .before .lacks-assumed-type-or-rank .ensures) ∙ c .if4 .taken))))
+returns-4 c = lacks-later (c .before .before .before .before .before .before .before .before .before .before .args .ignoring) (c .before .before .before .before .before .before .before .before .before .before .args .standard) (c .before .before .before .before .before .before .before .before .before .before .args .kinds .now) (c .before .before .before .before .before .before .before .before .before .before .args .words .now) Selector Fortran90 (DerivedType since Fortran90 ∷ Class since Fortran2003 ∷ AssumedTypeOrRank since Fortran2018 ∷ []) (sym (c .before .before .before .before .before .before .before .lacks-kind .ensures) ∙ c .before .before .before .before .before .before .if1 .left) (lacks-later (c .before .before .before .before .before .before .before .before .before .before .args .ignoring) (c .before .before .before .before .before .before .before .before .before .before .args .standard) (c .before .before .before .before .before .before .before .before .before .before .args .kinds .now) (c .before .before .before .before .before .before .before .before .before .before .args .words .now) DerivedType Fortran90 (Class since Fortran2003 ∷ AssumedTypeOrRank since Fortran2018 ∷ []) (sym (c .before .before .before .before .before .lacks-call .ensures) ∙ c .before .before .before .before .if2 .left) (lacks-later (c .before .before .before .before .before .before .before .before .before .before .args .ignoring) (c .before .before .before .before .before .before .before .before .before .before .args .standard) (c .before .before .before .before .before .before .before .before .before .before .args .kinds .now) (c .before .before .before .before .before .before .before .before .before .before .args .words .now) Class Fortran2003 (AssumedTypeOrRank since Fortran2018 ∷ []) (sym (c .before .before .before .lacks-call2 .ensures) ∙ c .before .before .if3 .left) (lacks-first (c .before .before .before .before .before .before .before .before .before .before .args .ignoring) (c .before .before .before .before .before .before .before .before .before .before .args .standard) (c .before .before .before .before .before .before .before .before .before .before .args .kinds .now) (c .before .before .before .before .before .before .before .before .before .before .args .words .now) AssumedTypeOrRank Fortran2018 [] refl (sym (c .before .lacks-assumed-type-or-rank .ensures) ∙ c .if4 .taken))))
 
 returns-5 : tie.Need-returns-5
 unfolding features uses ascends
-returns-5 c = lacks-later (c .before .before .before .before .before .before .before .before .before .before .args .standard) (c .before .before .before .before .before .before .before .before .before .before .args .kinds .now) (c .before .before .before .before .before .before .before .before .before .before .args .words .now) Selector Fortran90 (DerivedType since Fortran90 ∷ Class since Fortran2003 ∷ AssumedTypeOrRank since Fortran2018 ∷ []) (sym (c .before .before .before .before .before .before .before .lacks-kind .ensures) ∙ c .before .before .before .before .before .before .if1 .left) (lacks-later (c .before .before .before .before .before .before .before .before .before .before .args .standard) (c .before .before .before .before .before .before .before .before .before .before .args .kinds .now) (c .before .before .before .before .before .before .before .before .before .before .args .words .now) DerivedType Fortran90 (Class since Fortran2003 ∷ AssumedTypeOrRank since Fortran2018 ∷ []) (sym (c .before .before .before .before .before .lacks-call .ensures) ∙ c .before .before .before .before .if2 .left) (lacks-later (c .before .before .before .before .before .before .before .before .before .before .args .standard) (c .before .before .before .before .before .before .before .before .before .before .args .kinds .now) (c .before .before .before .before .before .before .before .before .before .before .args .words .now) Class Fortran2003 (AssumedTypeOrRank since Fortran2018 ∷ []) (sym (c .before .before .before .lacks-call2 .ensures) ∙ c .before .before .if3 .left) (lacks-later (c .before .before .before .before .before .before .before .before .before .before .args .standard) (c .before .before .before .before .before .before .before .before .before .before .args .kinds .now) (c .before .before .before .before .before .before .before .before .before .before .args .words .now) AssumedTypeOrRank Fortran2018 [] (sym (c .before .lacks-assumed-type-or-rank .ensures) ∙ c .if4 .left) (lacks-nothing (c .before .before .before .before .before .before .before .before .before .before .args .standard) (c .before .before .before .before .before .before .before .before .before .before .args .kinds .now) (c .before .before .before .before .before .before .before .before .before .before .args .words .now)))))
+returns-5 c = lacks-later (c .before .before .before .before .before .before .before .before .before .before .args .ignoring) (c .before .before .before .before .before .before .before .before .before .before .args .standard) (c .before .before .before .before .before .before .before .before .before .before .args .kinds .now) (c .before .before .before .before .before .before .before .before .before .before .args .words .now) Selector Fortran90 (DerivedType since Fortran90 ∷ Class since Fortran2003 ∷ AssumedTypeOrRank since Fortran2018 ∷ []) (sym (c .before .before .before .before .before .before .before .lacks-kind .ensures) ∙ c .before .before .before .before .before .before .if1 .left) (lacks-later (c .before .before .before .before .before .before .before .before .before .before .args .ignoring) (c .before .before .before .before .before .before .before .before .before .before .args .standard) (c .before .before .before .before .before .before .before .before .before .before .args .kinds .now) (c .before .before .before .before .before .before .before .before .before .before .args .words .now) DerivedType Fortran90 (Class since Fortran2003 ∷ AssumedTypeOrRank since Fortran2018 ∷ []) (sym (c .before .before .before .before .before .lacks-call .ensures) ∙ c .before .before .before .before .if2 .left) (lacks-later (c .before .before .before .before .before .before .before .before .before .before .args .ignoring) (c .before .before .before .before .before .before .before .before .before .before .args .standard) (c .before .before .before .before .before .before .before .before .before .before .args .kinds .now) (c .before .before .before .before .before .before .before .before .before .before .args .words .now) Class Fortran2003 (AssumedTypeOrRank since Fortran2018 ∷ []) (sym (c .before .before .before .lacks-call2 .ensures) ∙ c .before .before .if3 .left) (lacks-later (c .before .before .before .before .before .before .before .before .before .before .args .ignoring) (c .before .before .before .before .before .before .before .before .before .before .args .standard) (c .before .before .before .before .before .before .before .before .before .before .args .kinds .now) (c .before .before .before .before .before .before .before .before .before .before .args .words .now) AssumedTypeOrRank Fortran2018 [] (sym (c .before .lacks-assumed-type-or-rank .ensures) ∙ c .if4 .left) (lacks-nothing (c .before .before .before .before .before .before .before .before .before .before .args .ignoring) (c .before .before .before .before .before .before .before .before .before .before .args .standard) (c .before .before .before .before .before .before .before .before .before .before .args .kinds .now) (c .before .before .before .before .before .before .before .before .before .before .args .words .now)))))
 
 pub missing-in-fortran-spec : {M : Type 1} → statement M
 missing-in-fortran-spec =
