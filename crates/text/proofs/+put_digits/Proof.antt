@@ -2,6 +2,7 @@
 use Prim.Native.Nat.{_-_, _/_}
 use native.Mathlib.Omega.{arith}
 use borrow.Author.Needs.{needs}
+use Rattle.text.specs.Text.{base}
 use Rattle.text.specs.Laws.Appending.{appended-as, appended-then, digits-last, digits-few, digits-more, digits-long}
 use Prim.Native.Nat.{ℕ, _<_}
 use borrow.Fn.Kinds.{In}
@@ -62,7 +63,7 @@ put-digits-digit-requires-3 : (t : ℕ) → put-digits-lts.Need-digit-requires-3
 put-digits-digit-requires-3 t c κs = search needs
 
 put-digits-put-byte-requires-3 : (t : ℕ) → put-digits-lts.Need-put-byte-requires-3 (put-digits-calls t) (put-digits-at t) put-digits.Post
-put-digits-put-byte-requires-3 t c κs = omega (arith, digits-long (c .before .before .before .before .before .before .before .before .before .args .more - 1) (c .before .before .before .before .before .before .before .before .before .args .number / 10))
+put-digits-put-byte-requires-3 t c κs = omega (arith, digits-long (c .before .before .before .before .before .before .before .before .before .args .more - 1) (c .before .before .before .before .before .before .before .before .before .args .number / base))
 
 put-digits-same-length-3 : (t : ℕ) → put-digits-lts.Need-same-length-3 (put-digits-calls t) (put-digits-at t) put-digits.Post
 put-digits-same-length-3 t c = omega arith
