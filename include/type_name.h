@@ -227,7 +227,8 @@ enum type_name_delimiter {
  * more than four thousand million. With the greatest allowance such a file, of 811 bytes, runs for a minute.
  * Whoever takes files from others lowers it with type_name_limit_allowance.
  *
- * It calls memset of the C library, allocates nothing and keeps no state, so that threads may call it at the same time.
+ * It calls memcpy and memset of the C library, allocates nothing and keeps no state, so that threads may call it at the
+ * same time.
  * Stack, as measured: at most 10 KB for some 5,600 rows of real type names, 52 KB for 64 nested lists or groups with the
  * structure check, the most that was seen. */
 uint32_t type_name_read(const uint8_t *file, size_t file_len,

@@ -1,90 +1,97 @@
 -- The answer to a row and to a file, and the final tree buffer: document 01, "Answer record".
 -- Assumes nothing.
-use Prim.Native.Nat.{ℕ, _+_, _*_, _-_}
-use mathlib.Core.Bool.{Bool, true, false, not, _&&_}
-use mathlib.Core.List.{List, [], _∷_, _++_}
+use Prim.Native.Nat.{ℕ, _+_, _-_}
+use mathlib.Core.Bool.{Bool, not, _&&_}
+use mathlib.Core.List.{List, [], _++_}
 use lib.ListN.{length, replicate}
-use lib.Dec.{leb, ltb, eqb}
+use lib.Dec.{eqb}
 use Rattle.rows.specs.Notation.{if_then_else_}
 use Rattle.rows.specs.Languages.{Cpp}
-use Rattle.rows.specs.Format.{format, head-length, most-tokens}
-use Rattle.rows.specs.Records.{RowToken, Row, row, head, records-from, kinds-of, words-of}
-use Rattle.rows.specs.Records
+use Rattle.rows.specs.Format.{format, asks-structure}
+use Rattle.rows.specs.Records.{kinds-of, words-of}
+use Rattle.rows.specs.Allowance.{within}
 use Rattle.rows.specs.declared.answer.TypeNameError.{TypeNameError}
-use Rattle.rows.specs.declared.answer.TypeNameError.the-variants.{ShortBuffer, UnexpectedTokenAfterTypeName, AllowancePassed, NoTypeName, NotAvailableInProfile}
+use Rattle.rows.specs.declared.answer.TypeNameError.the-variants.{UnexpectedTokenAfterTypeName, AllowancePassed, NoTypeName, NotAvailableInProfile}
 use Rattle.rows.specs.declared.answer.Answer.{Answer}
 use Rattle.rows.specs.declared.answer.Answer.the-variants.{Accepted, Refused}
-use Rattle.rows.specs.declared.head.Head.{Head}
-use Rattle.rows.specs.declared.head.FileHead.{FileHead}
-use Rattle.rows.specs.declared.head.FileHead.the-variants as FileHead
 use Rattle.prescan.specs.Prescan.{Scanned, passed, prescan}
 use Rattle.prescan.specs.Prescan
-use Rattle.reader.specs.Nodes.{Nodes, none, node, count, numbers-per-token, records}
+use Rattle.reader.specs.Nodes.{Nodes, count, records}
 use Rattle.reader.specs.Reading.{Got, got, bad, Fault, refusal, no-list, reading}
 use Rattle.structure.specs.Said.{Said, holds, fails}
 use Rattle.structure.specs.Structure.{validate-structured-syntax}
 use Rattle.profile.specs.Profile.{missing-feature}
 use Rattle.profile.specs.declared.profile.Lack.{Lack}
 use Rattle.profile.specs.declared.profile.Lack.the-variants.{Nothing, Lacks}
+use Rattle.type_name.specs.FileRow.{HeadRow, Outcome, untouched, read, on-read, file-row}
 
--- ---- the answer to a row
+-- ---- the answer to a row, place by place
 
 -- What is answered to a row: its tree and the steps taken, or a refusal and the steps up to it.
 pub data RowAnswer : Type 0 where
   accepted : Nodes → (steps : ℕ) → RowAnswer
   refused : TypeNameError → (steps : ℕ) → RowAnswer
 
+-- "Places are tested in the table's order": the next place, told the tree and the steps so far, where the places so far let the row pass.
+unfoldable pub on-tree : RowAnswer → (Nodes → (steps : ℕ) → RowAnswer) → RowAnswer
+on-tree (accepted x m) next = next x m
+on-tree (refused e m) next = refused e m
+
 -- A fault of the whole row is always a refusal: a list that fails only fails inside a try.
 unfoldable pub refusal-of : Fault → TypeNameError
 refusal-of (refusal e) = e
 refusal-of no-list = UnexpectedTokenAfterTypeName
 
--- "Structure, flag 1".
-abbrev pub with-structure : ℕ
-with-structure = 1
+-- Not "23 tokens or half a `>>` left over".
+unfoldable pub whole-row : (kinds : List ℕ) → (at : ℕ) (half : Bool) → Bool
+whole-row kinds at half = eqb at (length kinds) && not half
 
--- One row under one profile and flag, given by its token kinds and word numbers.
-module _ (language standard flag : ℕ) (kinds words : List ℕ) where
-  -- "Profile: 40 feature".
-  unfoldable pub after-structure : Nodes → (steps : ℕ) → Lack → RowAnswer
-  after-structure x m Nothing = accepted x m
-  after-structure x m (Lacks f) = refused (NotAvailableInProfile f) m
+-- The place "Reading: 20 .., 21 .., 22 .., 23 ..".
+unfoldable pub tree-of : (kinds : List ℕ) → Got → RowAnswer
+tree-of kinds (bad e m) = refused (refusal-of e) m
+tree-of kinds (got x at half m) = if whole-row kinds at half then accepted x m else refused UnexpectedTokenAfterTypeName m
 
-  -- "Structure, flag 1: 30 no type name".
-  unfoldable pub after-reading : Nodes → (steps : ℕ) → Said → RowAnswer
-  after-reading x m (holds n) = after-structure x (m + n) (missing-feature language standard kinds words)
-  after-reading x m (fails n) = refused NoTypeName (m + n)
+-- The places "Prescan" and "Row end", and then the reading. "Steps are 0 up to 18."
+unfoldable pub after-prescan : (language : ℕ) (kinds : List ℕ) → Scanned → RowAnswer
+after-prescan language kinds (Prescan.refused e) = refused e 0
+after-prescan language kinds (passed s) = tree-of kinds (reading (eqb language Cpp) kinds)
 
-  -- "Structure, flag 1": with flag 0 it holds without a step.
-  unfoldable pub structure-of : Nodes → Said
-  structure-of x = if eqb flag with-structure then validate-structured-syntax language kinds words x else holds 0
+-- A row's tree, or why it has none: the places up to "Reading".
+unfoldable pub row-tree : (language : ℕ) (kinds : List ℕ) → RowAnswer
+row-tree language kinds = after-prescan language kinds (prescan language kinds)
 
-  -- "Reading: .. 23 tokens or half a `>>` left over".
-  unfoldable pub whole-row : (at : ℕ) (half : Bool) → Bool
-  whole-row at half = eqb at (length kinds) && not half
+-- "Structure, flag 1": with flag 0 it holds without a step.
+unfoldable pub structure-of : (language flag : ℕ) (kinds words : List ℕ) → Nodes → Said
+structure-of language flag kinds words x = if asks-structure flag then validate-structured-syntax language kinds words x else holds 0
 
-  -- "Reading: 20 .., 21 .., 22 .., 23 ..", then the structure.
-  unfoldable pub after-prescan : Got → RowAnswer
-  after-prescan (bad e m) = refused (refusal-of e) m
-  after-prescan (got x at half m) =
-      elim (whole-row at half) as (λ _. RowAnswer) [
-        | true ↦ after-reading x m (structure-of x)
-        | false ↦ refused UnexpectedTokenAfterTypeName m
-      ]
+-- "30 no type name"; its steps are added.
+unfoldable pub by-structure : Nodes → (steps : ℕ) → Said → RowAnswer
+by-structure x m (holds n) = accepted x (m + n)
+by-structure x m (fails n) = refused NoTypeName (m + n)
 
-  -- "Steps are 0 up to 18."
-  unfoldable pub from-prescan : Scanned → RowAnswer
-  from-prescan (Prescan.refused e) = refused e 0
-  from-prescan (passed s) = after-prescan (reading (eqb language Cpp) kinds)
+-- "40 feature".
+unfoldable pub by-profile : Nodes → (steps : ℕ) → Lack → RowAnswer
+by-profile x m Nothing = accepted x m
+by-profile x m (Lacks f) = refused (NotAvailableInProfile f) m
 
-  -- The answer under an allowance that suffices: "Places are tested in the table's order."
-  unfoldable pub unlimited : RowAnswer
-  unlimited = from-prescan (prescan language kinds)
+-- The places "Structure" and "Profile", of a tree however it was read.
+unfoldable pub tree-checked : (language standard flag : ℕ) (kinds words : List ℕ) → RowAnswer → RowAnswer
+tree-checked language standard flag kinds words a =
+    on-tree (on-tree a λ x m. by-structure x m (structure-of language flag kinds words x)) λ x m.
+    by-profile x m (missing-feature language standard kinds words)
 
--- "25 step count would pass the allowance, and only then"; its steps are the allowance.
+-- The answer to a row under one profile and flag, given by its token kinds and word numbers, where the allowance suffices.
+unfoldable pub unlimited : (language standard flag : ℕ) (kinds words : List ℕ) → RowAnswer
+unlimited language standard flag kinds words = tree-checked language standard flag kinds words (row-tree language kinds)
+
+-- The steps of a row's answer.
+unfoldable pub row-steps : RowAnswer → ℕ
+row-steps (accepted x m) = m
+row-steps (refused e m) = m
+
+-- "25 step count would pass the allowance, and only then"; its steps are "the allowance for 25".
 unfoldable pub limited : (allowance : ℕ) → RowAnswer → RowAnswer
-limited allowance (accepted x m) = if leb m allowance then accepted x m else refused AllowancePassed allowance
-limited allowance (refused e m) = if leb m allowance then refused e m else refused AllowancePassed allowance
+limited allowance a = within allowance (row-steps a) a (refused AllowancePassed allowance)
 
 -- The "Answer record" of a row under an allowance.
 unfoldable pub answerOf : (language standard flag : ℕ) → (kinds words : List ℕ) → (allowance : ℕ) → RowAnswer
@@ -92,33 +99,17 @@ answerOf language standard flag kinds words allowance = limited allowance (unlim
 
 -- ---- the answer to a file
 
--- What comes of a file: a refusal that does not touch the tree buffer (1 to 6), or the answer to its row.
-pub data Outcome : Type 0 where
-  untouched : TypeNameError → Outcome
-  read : RowAnswer → Outcome
-
--- The place "Buffer" of the table, then the answer to the row.
-unfoldable pub of-row : Head → (room : ℕ) → List RowToken → Outcome
-of-row h room ts =
-    if ltb room (numbers-per-token * length ts) then untouched ShortBuffer
-    else read (answerOf (h .language) (h .standard) (h .flag) (kinds-of ts) (words-of ts) (h .allowance))
-
--- The place "Each record in turn", then the row.
-unfoldable pub of-records : Head → (room : ℕ) → Row → Outcome
-of-records h room (Records.refused e) = untouched e
-of-records h room (row ts) = of-row h room ts
-
--- The place "File", then the records.
-unfoldable pub of-head : (file : List ℕ) (room : ℕ) → FileHead → Outcome
-of-head file room (FileHead.Refused e) = untouched e
-of-head file room (FileHead.Formed h) = of-records h room (records-from format file most-tokens head-length)
+-- The answer to its row, under the head's profile, flag and allowance.
+unfoldable pub row-answer : HeadRow → RowAnswer
+row-answer r =
+    answerOf (r .the-head .language) (r .the-head .standard) (r .the-head .flag) (kinds-of (r .tokens)) (words-of (r .tokens)) (r .the-head .allowance)
 
 -- What comes of a file with a tree buffer of `room` numbers. "Places are tested in the table's order."
-unfoldable pub outcome : (file : List ℕ) (room : ℕ) → Outcome
-outcome file room = of-head file room (head format file)
+unfoldable pub outcome : (file : List ℕ) (room : ℕ) → Outcome RowAnswer
+outcome file room = on-read (file-row format file room) λ r. read (row-answer r)
 
 -- "Accepted: node count, steps. Refused: number, token, detail, steps."
-unfoldable pub answer-in : Outcome → Answer
+unfoldable pub answer-in : Outcome RowAnswer → Answer
 answer-in (untouched e) = Refused e 0
 answer-in (read (accepted x m)) = Accepted (count x) m
 answer-in (read (refused e m)) = Refused e m
@@ -134,7 +125,7 @@ unfoldable pub filled : (room : ℕ) → List ℕ → List ℕ
 filled room numbers = numbers ++ replicate (room - length numbers) 0
 
 -- "Refusals 1 to 6 don't touch the tree buffer; all others fill it with zeros."
-unfoldable pub buffer-in : (before : List ℕ) → Outcome → List ℕ
+unfoldable pub buffer-in : (before : List ℕ) → Outcome RowAnswer → List ℕ
 buffer-in before (untouched e) = before
 buffer-in before (read (accepted x m)) = filled (length before) (records x)
 buffer-in before (read (refused e m)) = filled (length before) []

@@ -8,7 +8,10 @@ use Rattle.rows.specs.Languages.{C, Cpp, Fortran, C89, Cpp98, Cpp17, Fortran201
 use Rattle.rows.specs.Kinds.{Integer, LeftParen, RightParen, LeftBracket, RightBracket, Star, Ampersand, Less, Greater, ShiftRight}
 use Rattle.rows.specs.Refusals.{no-token}
 use Rattle.reader.specs.Written.{Token, sign}
+use Rattle.rows.specs.declared.answer.Answer.the-variants.{Accepted, Refused}
+use Rattle.rows.specs.declared.answer.TypeNameError.the-variants.{InvalidRecord, UnclosedAngle}
 use Rattle.type_name.specs.Answers.{answer, final-buffer}
+use Rattle.type_name.specs.AnswerNumbers.{answer-numbers, answer-code}
 use Rattle.type_name.specs.Lines.{Line, ok, refuses, line-of, answer-line, file-line}
 use Rattle.type_name.specs.StarredRows.{word, int-file}
 
@@ -20,7 +23,7 @@ lanes : line-of Cpp Cpp17 0 lane ∷ line-of Cpp Cpp17 1 lane ∷ [] ≡ ok 10 8
 unfolding line-of lane
 lanes = refl
 
--- `LONG LONG`, C89: flag 0 40 detail 1; flag 1 30, since the structure is checked before the profile
+-- `LONG LONG`, C89: flag 0 40 detail 1; flag 1 30, since the structure is tree-checked before the profile
 upper : List Token
 upper = word "LONG" ∷ word "LONG" ∷ []
 
@@ -51,12 +54,29 @@ wrong-closer : line-of Cpp Cpp17 1
 unfolding line-of
 wrong-closer = refl
 
+-- ---- answers as numbers
+
+-- Accepted with 10 nodes after 8 steps; refusal 4 of a record at byte offset 23; refusal 16 that names token 1.
+as-numbers : answer-numbers (Accepted 10 8) ∷ answer-numbers (Refused (InvalidRecord 23) 0) ∷ answer-numbers (Refused (UnclosedAngle 1) 0) ∷ []
+    ≡ (0 ∷ 10 ∷ 8 ∷ 0 ∷ []) ∷ (4 ∷ 65535 ∷ 23 ∷ 0 ∷ []) ∷ (16 ∷ 1 ∷ 0 ∷ 0 ∷ []) ∷ []
+unfolding answer-numbers
+as-numbers = refl
+
+codes : answer-code (Accepted 10 8) ∷ answer-code (Refused (UnclosedAngle 1) 0) ∷ [] ≡ 0 ∷ 16 ∷ []
+unfolding answer-code
+codes = refl
+
 -- ---- buffers, dirty before
 
 -- Fewer than 6 numbers for one token: 6, and the buffer stays.
 short : file-line (int-file 2) 5 ≡ refuses 6 no-token 0 0
 unfolding file-line
 short = refl
+
+-- A record cut off: 4, though the buffer is short too.
+cut-record : file-line (take 20 (int-file 2)) 5 ≡ refuses 4 no-token 11 0
+unfolding file-line
+cut-record = refl
 
 short-buffer : final-buffer (int-file 2) (replicate 5 7) ≡ replicate 5 7
 unfolding file-line

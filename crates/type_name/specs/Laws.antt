@@ -1,4 +1,5 @@
 pub mod Parts
+pub mod FileRow
 pub mod Total
 pub mod OnlyThen
 pub mod AcceptedRow
@@ -6,9 +7,8 @@ pub mod SameRecords
 pub mod RowTokens
 pub mod Stable
 pub mod Promised
+pub mod NotLeftOver
 pub mod ShutOut
 pub mod Entry
 pub mod FinalBuffer
-pub mod FewTokens
 pub mod EntryFile
-pub mod Exported

@@ -1,8 +1,10 @@
+pub mod FileRow
 pub mod Answers
+pub mod AnswerNumbers
 pub mod EntrySays
-pub mod Export
 pub mod Promises
 pub mod Lines
 pub mod StarredRows
 pub mod Laws
+pub mod Theorems
 pub mod Examples

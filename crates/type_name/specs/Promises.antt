@@ -17,8 +17,11 @@ use Rattle.prescan.specs.Matcher.{Pair, Paired}
 use Rattle.reader.specs.Nodes.{Nodes, G-node, B-node, count, numbers-per-token, records}
 use Rattle.reader.specs.Reading.{MAX-NESTING-DEPTH}
 use Rattle.reader.specs.Written.{Token, written, halved, angles, without-angles}
-use Rattle.reader.specs.Standing.{depth, tokens-of, numbers-of, token-of, IsGroup, Below}
-use Rattle.type_name.specs.Answers.{accepted, outcome, read, answer, filled, final-buffer}
+use Rattle.reader.specs.Standing.{depth, tokens-of, numbers-of, IsGroup, Below}
+use Rattle.reader.specs.Nodes.{token-of}
+use Rattle.type_name.specs.FileRow.{read}
+use Rattle.type_name.specs.AnswerNumbers.{answer-numbers}
+use Rattle.type_name.specs.Answers.{accepted, outcome, answer, filled, final-buffer}
 
 -- ---- demands 1 and 2
 
@@ -26,6 +29,11 @@ use Rattle.type_name.specs.Answers.{accepted, outcome, read, answer, fil
 -- refusal .. is proved equal to a definition written from document 01".
 abbrev pub Answered : (file before : List ℕ) → Answer → Type 0
 Answered file before a = a ≡ answer file (length before)
+
+-- "A definition states this paper's number and values for each of the enum's cases. The promises use that definition": its numbers are those of the
+-- definition's answer.
+abbrev pub Numbered : (file before : List ℕ) → Answer → Type 0
+Numbered file before a = answer-numbers a ≡ answer-numbers (answer file (length before))
 
 -- "with the buffer's contents fixed in each case".
 abbrev pub Buffered : (file before after : List ℕ) → Type 0
@@ -115,6 +123,7 @@ Stable file a after =
 -- The three demands of one call; the entry's contract is this.
 pub record Promised (file before : List ℕ) (a : Answer) (after : List ℕ) : Type 0 where
   pub answered : Answered file before a
+  pub numbered : Numbered file before a
   pub buffered : Buffered file before after
   pub tree-defined : TreeDefined file before a after
   pub nested : Nested file a after

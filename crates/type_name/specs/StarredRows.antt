@@ -1,10 +1,11 @@
 -- The rows that document 01 works out and marks *, as one table about the definitions.
 -- Assumes nothing.
-use Prim.Native.Nat.{ℕ, suc, _≤_, _<_}
+use Prim.Native.Nat.{ℕ, zero, suc, _≤_, _<_}
 use Prim.Native.String.{String}
 use mathlib.Core.Path.{_≡_, refl, ap, subst, _∙_}
 use mathlib.Core.Bool.{Bool, true, false}
 use mathlib.Core.List.{List, [], _∷_, _++_}
+use native.Mathlib.Omega.{arith}
 use lib.ListN.{replicate}
 use borrow.Author.Tests.{le-leb}
 use Rattle.rows.specs.Languages.{C, Cpp, Fortran, C89, C99, C11, C23, Cpp11, Cpp17, Fortran77}
@@ -14,7 +15,7 @@ use Rattle.rows.specs.Words.{bytes}
 use Rattle.rows.specs.Refusals.{no-token}
 use Rattle.reader.specs.Written.{Token, sign}
 use Rattle.rows.specs.declared.answer.Answer.the-variants.{Accepted}
-use Rattle.type_name.specs.Answers.{RowAnswer, accepted, refused, limited, unlimited, answerOf, answer, final-buffer}
+use Rattle.type_name.specs.Answers.{RowAnswer, accepted, refused, row-steps, limited, unlimited, answerOf, answer, final-buffer}
 use Rattle.type_name.specs.Lines.{Line, ok, refuses, line, line-by-numbers, line-of, kinds-in, words-in, answer-line, file-line}
 
 -- An identifier token.
@@ -34,9 +35,9 @@ At language standard flag row expected =
 abbrev pub In : (language flag : ℕ) → List Token → Line → Type 0
 In language flag row expected = (standard : ℕ) → standard < declared language → At language standard flag row expected
 
--- The same in every language.
+-- The same in every language: C, C++ and Fortran are 0, 1 and 2.
 abbrev pub InEach : (flag : ℕ) → List Token → Line → Type 0
-InEach flag row expected = In C flag row expected × In Cpp flag row expected × In Fortran flag row expected
+InEach flag row expected = (language : ℕ) → language ≤ Fortran → In language flag row expected
 
 -- `int`
 abbrev pub int-row : List Token
@@ -119,7 +120,7 @@ pub record StarredRows : Type 0 where
 -- ---- the proof: each row is computed once, without an allowance
 
 within : (a : RowAnswer) (allowance : ℕ) → steps-of (line a) ≤ allowance → limited allowance a ≡ a
-unfolding limited line
+unfolding limited row-steps line
 within (accepted x m) allowance p = rw (le-leb m allowance p)
 within (refused e m) allowance p = rw (le-leb m allowance p)
 
@@ -128,17 +129,9 @@ unfolding answerOf line-of line-by-numbers
 at language standard flag row expected q allowance p =
     ap line (within (unlimited language standard flag (kinds-in row) (words-in row)) allowance (rw q p)) ∙ q
 
-empty-c : (standard : ℕ) → line-of C standard 1 [] ≡ refuses 10 no-token 0 0
+empty-line : (language standard : ℕ) → line-of language standard 1 [] ≡ refuses 10 no-token 0 0
 unfolding line-of
-empty-c standard = refl
-
-empty-cpp : (standard : ℕ) → line-of Cpp standard 1 [] ≡ refuses 10 no-token 0 0
-unfolding line-of
-empty-cpp standard = refl
-
-empty-fortran : (standard : ℕ) → line-of Fortran standard 1 [] ≡ refuses 10 no-token 0 0
-unfolding line-of
-empty-fortran standard = refl
+empty-line language standard = refl
 
 int-line : line-of C C89 1 int-row ≡ ok 1 2
 unfolding line-of
@@ -176,29 +169,19 @@ one-angle-too-many-line : (standard : ℕ) → line-of Cpp standard 1 closed-twi
 unfolding line-of
 one-angle-too-many-line standard = refl
 
-shifted-unchecked-c : (standard : ℕ) → line-of C standard 0 shifted ≡ ok 3 3
+shifted-unchecked-line : (language standard : ℕ) → language ≤ Fortran → line-of language standard 0 shifted ≡ ok 3 3
 unfolding line-of
-shifted-unchecked-c standard = refl
+shifted-unchecked-line zero standard p = refl
+shifted-unchecked-line (suc zero) standard p = refl
+shifted-unchecked-line (suc (suc zero)) standard p = refl
+shifted-unchecked-line (suc (suc (suc language))) standard p = absurd (omega arith)
 
-shifted-unchecked-cpp : (standard : ℕ) → line-of Cpp standard 0 shifted ≡ ok 3 3
+shifted-checked-line : (language standard : ℕ) → language ≤ Fortran → line-of language standard 1 shifted ≡ refuses 30 no-token 0 4
 unfolding line-of
-shifted-unchecked-cpp standard = refl
-
-shifted-unchecked-fortran : (standard : ℕ) → line-of Fortran standard 0 shifted ≡ ok 3 3
-unfolding line-of
-shifted-unchecked-fortran standard = refl
-
-shifted-checked-c : (standard : ℕ) → line-of C standard 1 shifted ≡ refuses 30 no-token 0 4
-unfolding line-of
-shifted-checked-c standard = refl
-
-shifted-checked-cpp : (standard : ℕ) → line-of Cpp standard 1 shifted ≡ refuses 30 no-token 0 4
-unfolding line-of
-shifted-checked-cpp standard = refl
-
-shifted-checked-fortran : (standard : ℕ) → line-of Fortran standard 1 shifted ≡ refuses 30 no-token 0 4
-unfolding line-of
-shifted-checked-fortran standard = refl
+shifted-checked-line zero standard p = refl
+shifted-checked-line (suc zero) standard p = refl
+shifted-checked-line (suc (suc zero)) standard p = refl
+shifted-checked-line (suc (suc (suc language))) standard p = absurd (omega arith)
 
 two-lists-line : line-of Cpp Cpp11 1 nested ≡ ok 7 8
 unfolding line-of
@@ -213,7 +196,7 @@ unfolding line-of
 slots-refused-line = refl
 
 slots-short-line : line (answerOf Cpp Cpp17 1 (kinds-in slots) (words-in slots) 11) ≡ refuses 25 no-token 0 11
-unfolding line-of answerOf limited
+unfolding line-of answerOf limited row-steps
 slots-short-line = refl
 
 real-8-line : line-of Fortran Fortran77 1 real-row ≡ ok 3 4
@@ -231,11 +214,7 @@ bit-int-C23-line = refl
 pub starred-rows : StarredRows
 starred-rows =
     record {
-      empty = (
-        (λ s _. at C s 1 [] (refuses 10 no-token 0 0) (empty-c s)),
-        (λ s _. at Cpp s 1 [] (refuses 10 no-token 0 0) (empty-cpp s)),
-        (λ s _. at Fortran s 1 [] (refuses 10 no-token 0 0) (empty-fortran s)),
-      );
+      empty = λ l _ s _. at l s 1 [] (refuses 10 no-token 0 0) (empty-line l s);
       int = at C C89 1 int-row (ok 1 2) int-line;
       int-file-answer = int-file-answer-line;
       int-file-buffer = int-file-buffer-line;
@@ -245,16 +224,8 @@ starred-rows =
       long-long-long-checked = at C C99 1 long-long-long (refuses 30 no-token 0 4) long-long-long-checked-line;
       long-long-long-unchecked = at C C99 0 long-long-long (ok 3 3) long-long-long-unchecked-line;
       one-angle-too-many = λ s _. at Cpp s 1 closed-twice (refuses 12 3 0 0) (one-angle-too-many-line s);
-      shifted-unchecked = (
-        (λ s _. at C s 0 shifted (ok 3 3) (shifted-unchecked-c s)),
-        (λ s _. at Cpp s 0 shifted (ok 3 3) (shifted-unchecked-cpp s)),
-        (λ s _. at Fortran s 0 shifted (ok 3 3) (shifted-unchecked-fortran s)),
-      );
-      shifted-checked = (
-        (λ s _. at C s 1 shifted (refuses 30 no-token 0 4) (shifted-checked-c s)),
-        (λ s _. at Cpp s 1 shifted (refuses 30 no-token 0 4) (shifted-checked-cpp s)),
-        (λ s _. at Fortran s 1 shifted (refuses 30 no-token 0 4) (shifted-checked-fortran s)),
-      );
+      shifted-unchecked = λ l p s _. at l s 0 shifted (ok 3 3) (shifted-unchecked-line l s p);
+      shifted-checked = λ l p s _. at l s 1 shifted (refuses 30 no-token 0 4) (shifted-checked-line l s p);
       two-lists = at Cpp Cpp11 1 nested (ok 7 8) two-lists-line;
       open-angle = λ s _. at Cpp s 1 not-closed (refuses 16 1 0 0) (open-angle-line s);
       slots-refused = at Cpp Cpp17 1 slots (refuses 21 no-token 0 12) slots-refused-line;

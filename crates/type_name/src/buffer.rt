@@ -1,11 +1,10 @@
 // What the tree buffer holds in the end: the tree of an accepted row, and zeros.
 
+use reader::nodes::NODE_WIDTH;
 use rows::answer::Answer;
 ghost use mathlib.Core.Path.{_≡_};
 ghost use lib.ListN.{length, replicate};
 ghost use Rattle.type_name.specs.EntrySays.{Fits, settled};
-
-const NODE_WIDTH: usize = 3;
 
 fn clear(numbers: &mut [u32])
     ensures { λ _. ⌜ now (numbers .exit) ≡ replicate (length (now (numbers .entry))) 0 ⌝ }

@@ -2,5 +2,5 @@
 
 pub mod buffer;
 pub mod entry;
-pub mod export;
+pub mod file_row;
 pub mod tree;

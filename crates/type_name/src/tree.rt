@@ -1,4 +1,4 @@
-// The answer to a row: prescan, reading, structure, profile, one after the other.
+// A row's tree, and its checks: prescan, reading, structure, profile, one after the other.
 
 use prescan::boundary::Prescanned;
 use prescan::prescan::prescan_row;
@@ -9,22 +9,18 @@ use reader::parser::parse;
 use rows::answer::Answer;
 use rows::answer::TypeNameError;
 use rows::head::Head;
+use rows::head::asks_structure;
 use rows::languages::CPP;
 use structure::moves::Verdict;
 use structure::syntax::validate_structured_syntax;
 ghost use mathlib.Core.Path.{_≡_};
-ghost use Prim.Native.Nat.{_<_, _≤_};
+ghost use Prim.Native.Nat.{_*_, _≤_};
 ghost use lib.ListN.{length};
-ghost use lib.Dec.{eqb};
 ghost use Rattle.rows.specs.Format.{most-tokens};
-ghost use Rattle.rows.specs.Languages.{Cpp};
-ghost use Rattle.reader.specs.Reading.{reading};
+ghost use Rattle.reader.specs.Nodes.{numbers-per-token};
 ghost use Rattle.profile.specs.Profile.{missing-feature};
-ghost use Rattle.type_name.specs.Answers.{after-prescan, answer-in, answerOf, limited, read};
-ghost use Rattle.type_name.specs.EntrySays.{profile-answer, ReadsRow, RowReady, TreeReady};
-
-// The flag by which the structure is checked.
-const WITH_STRUCTURE: u8 = 1;
+ghost use Rattle.type_name.specs.Answers.{row-tree};
+ghost use Rattle.type_name.specs.EntrySays.{CheckReady, CheckSays, NodesReady, NodesSay, profile-answer, TreeSays};
 
 // Refusal 40, or the tree is accepted.
 fn check_profile(head: Head, kinds: &[u8], words: &[u8], nodes: u32, steps: u32) -> Answer
@@ -41,8 +37,8 @@ fn check_profile(head: Head, kinds: &[u8], words: &[u8], nodes: u32, steps: u32)
     }
 }
 
-// Refusals 30, 25 and 40 of a row that is read, its `nodes` in front of the buffer.
-fn check_tree(
+// Refusals 30, 25 and 40 of the tree that stands in front of the buffer, read in so many steps.
+fn check_nodes(
     head: Head,
     kinds: &[u8],
     words: &[u8],
@@ -50,11 +46,11 @@ fn check_tree(
     nodes: usize,
     steps: u32,
 ) -> Answer
-    requires { ⌜ TreeReady head (now kinds) (now words) (now tree) nodes steps ⌝ }
-    ensures { λ r. ⌜ r ≡ answer-in (read (limited (head .allowance) (after-prescan (head .language) (head .standard) (head .flag) (now (kinds .entry)) (now (words .entry)) (reading (eqb (head .language) Cpp) (now (kinds .entry)))))) ⌝ }
+    requires { ⌜ NodesReady (now kinds) (now words) (head .allowance) nodes steps (now tree) ⌝ }
+    ensures { λ r. ⌜ NodesSay head (now (kinds .entry)) (now (words .entry)) nodes steps (now (tree .entry)) r ⌝ }
 {
     let count = nodes as u32;
-    if head.flag != WITH_STRUCTURE {
+    if !asks_structure(head.flag) {
         return check_profile(head, kinds, words, count, steps);
     }
     let allowed = (head.allowance - steps) as usize;
@@ -74,23 +70,30 @@ fn check_tree(
     }
 }
 
-// The answer to a row, its tree in front of the buffer if it is accepted. The buffer is lent to the prescan for its stack.
-pub fn read_tree(head: Head, kinds: &[u8], words: &[u8], tree: &mut [u32]) -> Answer
-    requires { ⌜ RowReady (now kinds) (now words) (now tree) ⌝ }
-    ensures { λ r. ⌜ ReadsRow (answerOf (head .language) (head .standard) (head .flag) (now (kinds .entry)) (now (words .entry)) (head .allowance)) r (now (tree .exit)) ⌝ }
+// The answer to a row, from what its reading came to.
+pub fn check_tree(head: Head, kinds: &[u8], words: &[u8], tree: &[u32], parsed: Parsed) -> Answer
+    requires { ⌜ CheckReady (now kinds) (now words) (head .allowance) parsed (now tree) ⌝ }
+    ensures { λ r. ⌜ CheckSays head (now (kinds .entry)) (now (words .entry)) parsed (now (tree .entry)) r ⌝ }
 {
-    let scanned = prescan_row(head.language, kinds, tree);
-    match scanned {
-        Prescanned::Refused(error) => return Answer::Refused { error, steps: 0 },
-        Prescanned::Passed => {}
-    }
-    let parsed = parse(kinds, head.language == CPP, tree, head.allowance);
     match parsed {
-        Parsed::Tree { nodes, steps } => check_tree(head, kinds, words, tree, nodes, steps),
+        Parsed::Tree { nodes, steps } => check_nodes(head, kinds, words, tree, nodes, steps),
         Parsed::Refused { error, steps } => Answer::Refused { error, steps },
         Parsed::AllowancePassed => Answer::Refused {
             error: TypeNameError::AllowancePassed,
             steps: head.allowance,
         },
     }
+}
+
+// A row's tree, in front of the buffer. The buffer is lent to the prescan for its stack.
+pub fn read_tree(language: u8, kinds: &[u8], tree: &mut [u32], allowance: u32) -> Parsed
+    requires { ⌜ (length (now kinds) ≤ most-tokens) × (numbers-per-token * length (now kinds) ≤ length (now tree)) ⌝ }
+    ensures { λ r. ⌜ TreeSays (now (kinds .entry)) allowance (row-tree language (now (kinds .entry))) r (now (tree .exit)) ⌝ }
+{
+    let scanned = prescan_row(language, kinds, tree);
+    match scanned {
+        Prescanned::Refused(error) => return Parsed::Refused { error, steps: 0 },
+        Prescanned::Passed => {}
+    }
+    parse(kinds, language == CPP, tree, allowance)
 }

@@ -1,17 +1,19 @@
 -- From what the layers below say to the answer of a row. Assumes nothing.
-use Prim.Native.Nat.{ℕ, zero, suc, _+_, _-_, _*_, _≤_, _<_}
+use Prim.Native.Nat.{ℕ, suc, _+_, _-_, _*_, _≤_, _<_}
 use mathlib.Core.Path.{_≡_, refl, sym, ap, _∙_, subst}
 use mathlib.Core.Logic.{_⊎_, ⊎-elim, _≢_}
 use mathlib.Core.Bool.{Bool, true, false, not, _&&_}
-use mathlib.Core.List.{List, [], _∷_, _++_}
+use mathlib.Core.List.{List}
 use native.Mathlib.Omega.{arith}
 use native.Mathlib.Decide.{decLe}
 use native.Mathlib.Nat.{lt-of-not-le}
 use borrow.Author.Tests.{le-leb, lt-leb, eq-eqb, ne-eqb}
-use lib.ListN.{length, take, drop, replicate}
+use lib.ListN.{length, take}
 use lib.Dec.{leb, eqb}
 use Rattle.rows.specs.Notation.{if_then_else_}
 use Rattle.rows.specs.Languages.{Cpp}
+use Rattle.rows.specs.Format.{asks-structure, most-tokens}
+use Rattle.rows.specs.Laws.Tests.{and-false}
 use Rattle.rows.specs.declared.answer.Answer.{Answer}
 use Rattle.rows.specs.declared.answer.Answer.the-variants.{Accepted, Refused}
 use Rattle.rows.specs.declared.answer.TypeNameError.{TypeNameError}
@@ -27,17 +29,24 @@ use Rattle.reader.specs.Reading.{Got, got, bad, refusal, reading}
 use Rattle.reader.specs.ReaderSays.{TreeRead, LeftOver, ParseSays, Parses}
 use Rattle.reader.specs.declared.parser.Parsed.{Parsed}
 use Rattle.reader.specs.declared.parser.Parsed.the-variants as R
-use Rattle.reader.specs.Laws.Allowance.{steps}
+use Rattle.reader.specs.Allowance.{steps}
+use Rattle.reader.specs.Laws.Bounds.{two-nodes}
+use Rattle.reader.specs.Laws.Buffer.{holds as in-buffer}
+use Rattle.type_nodes.specs.Stands.{Ready}
 use Rattle.structure.specs.Said.{Said, holds, fails, after}
 use Rattle.structure.specs.Structure.{validate-structured-syntax}
 use Rattle.structure.specs.Allowance as Steps
+use Rattle.structure.specs.Says as Structure
+use Rattle.structure.specs.Laws.Limits.{limited-after}
+use Rattle.structure.specs.Laws.Trees.{tree-stands}
 use Rattle.structure.specs.declared.moves.Verdict.{Verdict}
 use Rattle.structure.specs.declared.moves.Verdict.the-variants.{Holds, Fails, Spent}
 use Rattle.profile.specs.Profile.{missing-feature}
 use Rattle.profile.specs.declared.profile.Lack.{Lack}
 use Rattle.profile.specs.declared.profile.Lack.the-variants.{Nothing, Lacks}
-use Rattle.type_name.specs.Answers.{RowAnswer, accepted, refused, refusal-of, after-structure, after-reading, structure-of, with-structure, whole-row, after-prescan, from-prescan, unlimited, limited, answerOf, answer-in, read}
-use Rattle.type_name.specs.EntrySays.{InFront, ReadsRow, profile-answer, verdict-answer}
+use Rattle.type_name.specs.FileRow.{read}
+use Rattle.type_name.specs.Answers.{RowAnswer, accepted, refused, on-tree, refusal-of, whole-row, tree-of, after-prescan, row-tree, structure-of, by-structure, by-profile, tree-checked, row-steps, limited, answer-in}
+use Rattle.type_name.specs.EntrySays.{TreeIn, TreeTold, TreeSays, NodesReady, NodesSay, CheckSays, InFront, ReadsRow, profile-answer, verdict-answer, row-checked}
 
 left-of : (al n : ℕ) → n ≤ al → al - (al - n) ≡ n
 left-of al n p = omega arith
@@ -45,9 +54,15 @@ left-of al n p = omega arith
 add-zero : (m : ℕ) → m + 0 ≡ m
 add-zero m = omega arith
 
-and-no : (b : Bool) → (b && false) ≡ false
-and-no true = refl
-and-no false = refl
+-- ---- under an allowance
+
+pub limited-fits : (al : ℕ) (a : RowAnswer) → row-steps a ≤ al → limited al a ≡ a
+unfolding limited
+limited-fits al a p = rw (le-leb (row-steps a) al p) refl
+
+pub limited-over : (al : ℕ) (a : RowAnswer) → al < row-steps a → limited al a ≡ refused AllowancePassed al
+unfolding limited
+limited-over al a p = rw (lt-leb (row-steps a) al p) refl
 
 -- ---- what the structure check leaves of the allowance
 
@@ -72,132 +87,166 @@ left-below al (fails k) = below-if (leb k al)
 pub left-within : {v : Verdict} (al : ℕ) (w : Said) → v ≡ Steps.limited al w → left-in v ≤ al
 left-within al w e = rw e (left-below al w)
 
--- ---- a row under its profile, flag and allowance: the tree x, of n nodes, is read in m steps
+-- ---- a tree that stands in front of the buffer
+
+module _ {kinds tree : List ℕ} {al n m : ℕ} {x : Nodes} (t : TreeIn kinds al x n m tree) where
+  pub tree-ready : {words : List ℕ} → length words ≡ length kinds → length kinds ≤ most-tokens → Ready tree kinds words 0 n
+  tree-ready w k = record {
+    formed = record { nodes = x; stands = t .stands; room = in-buffer x n tree (t .counted) (t .written); few = omega (arith, t .few, k) };
+    worded = w;
+  }
+
+  -- The steps of its check are added to those of the reading.
+  pub steps-added : {what : Nodes → Said} {v : Verdict} → Structure.Says tree kinds 0 n (al - m) what v → v ≡ Steps.limited al (after m (what x))
+  steps-added {what} s = s .says x (t .stands) ∙ sym (limited-after al m (what x) ∙ rw (le-leb m al (t .allowed)))
+
+-- ---- its checks, under the row's profile, flag and allowance
 
 module _ (l s f al : ℕ) (kinds words : List ℕ) where
   abbrev lack : Lack
   lack = missing-feature l s kinds words
 
-  -- What the profile says,
-  profiled : (x : Nodes) (n m : ℕ) (k : Lack) → count x ≡ n → m ≤ al → profile-answer n m k ≡ answer-in (read (limited al (after-structure l s f kinds words x m k)))
-  unfolding answer-in limited after-structure
-  profiled x n m Nothing c p = rw (le-leb m al p) (ap (λ (t : ℕ). Accepted t m) (sym c))
-  profiled x n m (Lacks g) c p = rw (le-leb m al p) refl
+  abbrev profiled : RowAnswer → RowAnswer
+  profiled a = on-tree a (λ x m. by-profile x m lack)
 
-  profile-over : (x : Nodes) (m : ℕ) (k : Lack) → al < m → limited al (after-structure l s f kinds words x m k) ≡ refused AllowancePassed al
-  unfolding limited after-structure
-  profile-over x m Nothing p = rw (lt-leb m al p) refl
-  profile-over x m (Lacks g) p = rw (lt-leb m al p) refl
+  -- What the profile says,
+  profile-told : (x : Nodes) (n m : ℕ) (k : Lack) → count x ≡ n → m ≤ al → profile-answer n m k ≡ answer-in (read (limited al (by-profile x m k)))
+  unfolding answer-in by-profile row-steps
+  profile-told x n m Nothing c p = rw (limited-fits al (accepted x m) p) (ap (λ (t : ℕ). Accepted t m) (sym c))
+  profile-told x n m (Lacks g) c p = rw (limited-fits al (refused (NotAvailableInProfile g) m) p) refl
+
+  profile-over : (x : Nodes) (m : ℕ) (k : Lack) → al < m → limited al (by-profile x m k) ≡ refused AllowancePassed al
+  unfolding by-profile row-steps
+  profile-over x m Nothing p = limited-over al (accepted x m) p
+  profile-over x m (Lacks g) p = limited-over al (refused (NotAvailableInProfile g) m) p
 
   -- and the structure check before it.
-  structured : (x : Nodes) (n m : ℕ) (w : Said) → count x ≡ n → verdict-answer n al lack (Steps.limited al (after m w)) ≡ answer-in (read (limited al (after-reading l s f kinds words x m w)))
-  unfolding Steps.limited after after-reading answer-in limited
-  structured x n m (holds k) c =
+  structure-told : (x : Nodes) (n m : ℕ) (w : Said) → count x ≡ n
+      → verdict-answer n al lack (Steps.limited al (after m w)) ≡ answer-in (read (limited al (profiled (by-structure x m w))))
+  unfolding Steps.limited after by-structure on-tree answer-in row-steps
+  structure-told x n m (holds k) c =
       elim (decLe (m + k) al) [
-        | yes p ↦ rw (le-leb (m + k) al p) (ap (λ (t : ℕ). profile-answer n t lack) (left-of al (m + k) p) ∙ profiled x n (m + k) lack c p)
+        | yes p ↦ rw (le-leb (m + k) al p) (ap (λ (t : ℕ). profile-answer n t lack) (left-of al (m + k) p) ∙ profile-told x n (m + k) lack c p)
         | no p ↦ rw (lt-leb (m + k) al (lt-of-not-le p)) (ap (λ (o : RowAnswer). answer-in (read o)) (sym (profile-over x (m + k) lack (lt-of-not-le p))))
       ]
-  structured x n m (fails k) c =
+  structure-told x n m (fails k) c =
       elim (decLe (m + k) al) [
-        | yes p ↦ rw (le-leb (m + k) al p) (ap (λ (t : ℕ). Refused NoTypeName t) (left-of al (m + k) p))
-        | no p ↦ rw (lt-leb (m + k) al (lt-of-not-le p)) refl
+        | yes p ↦ rw (le-leb (m + k) al p, limited-fits al (refused NoTypeName (m + k)) p) (ap (λ (t : ℕ). Refused NoTypeName t) (left-of al (m + k) p))
+        | no p ↦ rw (lt-leb (m + k) al (lt-of-not-le p), limited-over al (refused NoTypeName (m + k)) (lt-of-not-le p)) refl
       ]
 
-  structure-over : (x : Nodes) (m : ℕ) (w : Said) → al < m → limited al (after-reading l s f kinds words x m w) ≡ refused AllowancePassed al
-  unfolding after-reading limited
-  structure-over x m (holds k) p = profile-over x (m + k) lack (omega arith)
-  structure-over x m (fails k) p = rw (lt-leb (m + k) al (omega arith)) refl
+  module _ {tree : List ℕ} {n m : ℕ} {x : Nodes} (t : TreeIn kinds al x n m tree) where
+    -- Where the flag asks for no structure,
+    pub unchecked : asks-structure f ≡ false → profile-answer n m lack ≡ answer-in (read (limited al (tree-checked l s f kinds words (accepted x m))))
+    unfolding tree-checked on-tree structure-of by-structure
+    unchecked q = rw (q, add-zero m) (profile-told x n m lack (t .counted) (t .allowed))
 
-  -- ---- the whole row
-
-  abbrev whole : Got → RowAnswer
-  whole g = limited al (after-prescan l s f kinds words g)
-
-  -- By whether the row is read to its end.
-  abbrev by-end : (x : Nodes) (m : ℕ) → Bool → RowAnswer
-  by-end x m b =
-      elim b as (λ _. RowAnswer) [
-        | true ↦ after-reading l s f kinds words x m (structure-of l s f kinds words x)
-        | false ↦ refused UnexpectedTokenAfterTypeName m
-      ]
-
-  at-end : whole-row l s f kinds words (length kinds) false ≡ true
-  unfolding whole-row
-  at-end = rw (eq-eqb (length kinds) (length kinds) refl) refl
-
-  not-at-end : (at : ℕ) (half : Bool) → (at ≢ length kinds) ⊎ (half ≡ true) → whole-row l s f kinds words at half ≡ false
-  unfolding whole-row
-  not-at-end at half c = ⊎-elim (λ (q : at ≢ length kinds). rw (ne-eqb at (length kinds) q) refl) (λ (q : half ≡ true). rw q (and-no (eqb at (length kinds)))) c
-
-  whole-tree : (x : Nodes) (m : ℕ) → whole (got x (length kinds) false m) ≡ limited al (after-reading l s f kinds words x m (structure-of l s f kinds words x))
-  unfolding after-prescan
-  whole-tree x m = ap (λ (b : Bool). limited al (by-end x m b)) at-end
-
-  -- Flag 0: no structure is asked.
-  pub unchecked : {g : Got} {tree : List ℕ} {n m : ℕ} → TreeRead kinds al g n m tree → f ≢ with-structure → profile-answer n m lack ≡ answer-in (read (whole g))
-  unfolding structure-of after-reading
-  unchecked {n = n} {m = m} r q =
-      rw (r .is, whole-tree (r .nodes) m, ne-eqb f with-structure q, add-zero m) (profiled (r .nodes) n m lack (r .counted) (r .allowed))
-
-  -- Flag 1: the structure check's verdict.
-  pub checked : {g : Got} {tree : List ℕ} {n m : ℕ} {v : Verdict} (r : TreeRead kinds al g n m tree) → f ≡ with-structure
-      → v ≡ Steps.limited al (after m (validate-structured-syntax l kinds words (r .nodes))) → verdict-answer n al lack v ≡ answer-in (read (whole g))
-  unfolding structure-of
-  checked {n = n} {m = m} r q e =
-      rw (e, r .is, whole-tree (r .nodes) m, eq-eqb f with-structure q) (structured (r .nodes) n m (validate-structured-syntax l kinds words (r .nodes)) (r .counted))
+    -- and where it does: the structure check's verdict.
+    pub verdict-told : {v : Verdict} → asks-structure f ≡ true → v ≡ Steps.limited al (after m (validate-structured-syntax l kinds words x))
+        → verdict-answer n al lack v ≡ answer-in (read (limited al (tree-checked l s f kinds words (accepted x m))))
+    unfolding tree-checked on-tree structure-of
+    verdict-told q e = rw (e, q) (structure-told x n m (validate-structured-syntax l kinds words x) (t .counted))
 
   -- ---- the tree stands in front of the buffer
 
-  module _ (x : Nodes) (tree : List ℕ) (w : take (node-width * count x) tree ≡ records x) where
-    in-front-if : (b : Bool) (m : ℕ) → InFront (if b then accepted x m else refused AllowancePassed al) tree
-    in-front-if true m = w
-    in-front-if false m = tt
-
-    refused-free : (b : Bool) (e : TypeNameError) (m : ℕ) → InFront (if b then refused e m else refused AllowancePassed al) tree
-    refused-free true e m = tt
-    refused-free false e m = tt
-
-    in-front-profile : (m : ℕ) (k : Lack) → InFront (limited al (after-structure l s f kinds words x m k)) tree
-    unfolding limited after-structure
-    in-front-profile m Nothing = in-front-if (leb m al) m
-    in-front-profile m (Lacks g) = refused-free (leb m al) (NotAvailableInProfile g) m
-
-    in-front-structure : (m : ℕ) (v : Said) → InFront (limited al (after-reading l s f kinds words x m v)) tree
-    unfolding limited after-reading
-    in-front-structure m (holds k) = in-front-profile (m + k) lack
-    in-front-structure m (fails k) = refused-free (leb (m + k) al) NoTypeName (m + k)
-
-  pub tree-in-front : {g : Got} {tree : List ℕ} {n m : ℕ} → TreeRead kinds al g n m tree → InFront (whole g) tree
-  tree-in-front {tree = tree} {n = n} {m = m} r =
-      rw (r .is, whole-tree (r .nodes) m)
-      (in-front-structure (r .nodes) tree (ap (λ (k : ℕ). take (node-width * k) tree) (r .counted) ∙ r .written) m (structure-of l s f kinds words (r .nodes)))
-
-  -- ---- rows that are not read
-
-  pub row-refused : (g : Got) (e : TypeNameError) (m : ℕ) → m ≤ al → (g ≡ bad (refusal e) m) ⊎ LeftOver kinds g e m → whole g ≡ refused e m
-  unfolding after-prescan limited refusal-of
-  row-refused g e m p c =
-      ⊎-elim (λ (q : g ≡ bad (refusal e) m). rw (q, le-leb m al p) refl)
-      (λ (o : LeftOver kinds g e m). rw (o .is, o .error) (ap (λ (b : Bool). limited al (by-end (o .nodes) m b)) (not-at-end (o .at) (o .half) (o .over)) ∙ rw (le-leb m al p) refl)) c
-
-  pub row-over : (g : Got) → al < steps g → whole g ≡ refused AllowancePassed al
-  unfolding after-prescan limited steps
-  row-over (bad e m) p = rw (lt-leb m al p) refl
-  row-over (got x at half m) p = over (whole-row l s f kinds words at half)
+  in-front-limited : (o : RowAnswer) (tree : List ℕ) → InFront o tree → InFront (limited al o) tree
+  unfolding limited
+  in-front-limited o tree w = by (leb (row-steps o) al)
     where
-      over : (b : Bool) → limited al (by-end x m b) ≡ refused AllowancePassed al
-      over true = structure-over x m (structure-of l s f kinds words x) p
-      over false = rw (lt-leb m al p) refl
+      by : (b : Bool) → InFront (if b then o else refused AllowancePassed al) tree
+      by true = w
+      by false = tt
 
-  -- ---- after the prescan
+  in-front-profile : (o : RowAnswer) (tree : List ℕ) → InFront o tree → InFront (profiled o) tree
+  unfolding on-tree by-profile
+  in-front-profile (accepted x m) tree w = by lack
+    where
+      by : (k : Lack) → InFront (by-profile x m k) tree
+      by Nothing = w
+      by (Lacks g) = tt
+  in-front-profile (refused e m) tree w = tt
 
-  pub prescan-refused : {e : TypeNameError} → prescan l kinds ≡ Prescan.refused e → answerOf l s f kinds words al ≡ refused e 0
-  unfolding answerOf unlimited from-prescan limited
-  prescan-refused p = rw (p, le-leb 0 al (omega arith)) refl
+  in-front-structure : (x : Nodes) (m : ℕ) (w : Said) (tree : List ℕ) → InFront (accepted x m) tree → InFront (by-structure x m w) tree
+  unfolding by-structure
+  in-front-structure x m (holds k) tree w = w
+  in-front-structure x m (fails k) tree w = tt
 
-  pub prescan-passed : {t : Scan} → prescan l kinds ≡ passed t → answerOf l s f kinds words al ≡ whole (reading (eqb l Cpp) kinds)
-  unfolding answerOf unlimited from-prescan
-  prescan-passed p = rw p refl
+  tree-in-front : {tree : List ℕ} {n m : ℕ} {x : Nodes} → TreeIn kinds al x n m tree → InFront (limited al (tree-checked l s f kinds words (accepted x m))) tree
+  unfolding tree-checked on-tree
+  tree-in-front {tree} {n} {m} {x} t =
+      let held : take (node-width * count x) tree ≡ records x = ap (λ (k : ℕ). take (node-width * k) tree) (t .counted) ∙ t .written in
+      let said : RowAnswer = by-structure x m (structure-of l f kinds words x) in
+      in-front-limited (profiled said) tree (in-front-profile said tree (in-front-structure x m (structure-of l f kinds words x) tree held))
+
+  -- ---- a reading that was refused, or that passed the allowance
+
+  checked-refused : (e : TypeNameError) (m : ℕ) → tree-checked l s f kinds words (refused e m) ≡ refused e m
+  unfolding tree-checked on-tree
+  checked-refused e m = refl
+
+  structure-steps : (x : Nodes) (m : ℕ) (w : Said) → m ≤ row-steps (by-structure x m w)
+  unfolding by-structure row-steps
+  structure-steps x m (holds k) = omega arith
+  structure-steps x m (fails k) = omega arith
+
+  profile-steps : (o : RowAnswer) → row-steps o ≤ row-steps (profiled o)
+  unfolding on-tree row-steps by-profile
+  profile-steps (accepted x m) = by lack
+    where
+      by : (k : Lack) → m ≤ row-steps (by-profile x m k)
+      by Nothing = omega arith
+      by (Lacks g) = omega arith
+  profile-steps (refused e m) = omega arith
+
+  -- No check takes a step back.
+  checked-steps : (o : RowAnswer) → row-steps o ≤ row-steps (tree-checked l s f kinds words o)
+  unfolding tree-checked on-tree row-steps
+  checked-steps (accepted x m) =
+      omega (arith, structure-steps x m (structure-of l f kinds words x), profile-steps (by-structure x m (structure-of l f kinds words x)))
+  checked-steps (refused e m) = omega arith
+
+  checked-over : (o : RowAnswer) → al < row-steps o → limited al (tree-checked l s f kinds words o) ≡ refused AllowancePassed al
+  checked-over o p = limited-over al (tree-checked l s f kinds words o) (omega (arith, p, checked-steps o))
+
+-- ---- what `check_tree` says, by what the reading came to
+
+refusal-told : (h : Head) (kinds words tree : List ℕ) (o : RowAnswer) {e : TypeNameError} {m : ℕ} → row-checked h kinds words o ≡ refused e m
+    → ReadsRow (row-checked h kinds words o) (Refused e m) tree
+unfolding answer-in
+refusal-told h kinds words tree o {e} {m} q = subst (λ (a : RowAnswer). ReadsRow a (Refused e m) tree) (sym q) (record { answered = refl; in-front = tt })
+
+module _ (h : Head) (kinds words : List ℕ) {p : Parsed} {tree : List ℕ} where
+  abbrev told : {o : RowAnswer} {q : Parsed} → p ≡ q → TreeSays kinds (h .allowance) o p tree → TreeTold kinds (h .allowance) o q tree
+  told {o} e t = subst (λ (c : Parsed). TreeTold kinds (h .allowance) o c tree) e (t .says)
+
+  pub says-tree : {n m : ℕ} {r : Answer} → p ≡ R.Tree n m → NodesSay h kinds words n m tree r → CheckSays h kinds words p tree r
+  says-tree {m = m} {r = r} e c =
+      record {
+        says = λ o t.
+            let (x, is, t′) = told e t in
+            subst (λ (a : RowAnswer). ReadsRow (row-checked h kinds words a) r tree) (sym is)
+            (record { answered = c .says x t′; in-front = tree-in-front (h .language) (h .standard) (h .flag) (h .allowance) kinds words t′ });
+      }
+
+  pub says-refused : {e : TypeNameError} {m : ℕ} → p ≡ R.Refused e m → CheckSays h kinds words p tree (Refused e m)
+  unfolding row-steps
+  says-refused {e} {m} q =
+      record {
+        says = λ o t.
+            let (fits, is) = told q t in
+            refusal-told h kinds words tree o (ap (row-checked h kinds words) is ∙ ap (limited (h .allowance)) (checked-refused (h .language) (h .standard) (h .flag) (h .allowance) kinds words e m)
+            ∙ limited-fits (h .allowance) (refused e m) fits);
+      }
+
+  pub says-over : p ≡ R.AllowancePassed → CheckSays h kinds words p tree (Refused AllowancePassed (h .allowance))
+  says-over q = record { says = λ o t. refusal-told h kinds words tree o (checked-over (h .language) (h .standard) (h .flag) (h .allowance) kinds words o (told q t)) }
+
+-- A tree of the reading that the checks are asked of.
+pub nodes-ready : {kinds words tree : List ℕ} {al n m : ℕ} {o : RowAnswer} {p : Parsed} → p ≡ R.Tree n m → length kinds ≤ most-tokens → length words ≡ length kinds
+    → TreeSays kinds al o p tree → NodesReady kinds words al n m tree
+nodes-ready {kinds} {words} {tree} {al} {o = o} e k w t =
+    let (x, is, t′) = subst (λ (c : Parsed). TreeTold kinds al o c tree) e (t .says) in
+    record { few = k; worded = w; nodes = x; tree-in = t′ }
 
 -- ---- what the code of the layers below answers, by its cases
 
@@ -208,43 +257,61 @@ module _ {d : Scanned} where
   pub scan-passed : {r : Prescanned} → r ≡ P.Passed → Says r d → (t : Scan) × (d ≡ passed t)
   scan-passed q h = subst (λ (c : Prescanned). Same c d) q (h .same)
 
-module _ {kinds tree : List ℕ} {al : ℕ} {g : Got} {r : Parsed} where
-  pub tree-parsed : {n m : ℕ} → r ≡ R.Tree n m → Parses kinds al g r tree → TreeRead kinds al g n m tree
-  tree-parsed q h = subst (λ (c : Parsed). ParseSays kinds al g c tree) q (h .says)
+-- ---- the tree of a row
 
-  parse-refused : {e : TypeNameError} {m : ℕ} → r ≡ R.Refused e m → Parses kinds al g r tree → (m ≤ al) × ((g ≡ bad (refusal e) m) ⊎ LeftOver kinds g e m)
-  parse-refused q h = subst (λ (c : Parsed). ParseSays kinds al g c tree) q (h .says)
-
-  parse-over : r ≡ R.AllowancePassed → Parses kinds al g r tree → al < steps g
-  parse-over q h = subst (λ (c : Parsed). ParseSays kinds al g c tree) q (h .says)
-
--- ---- and the answer to the row
-
-module _ (l s f al : ℕ) (kinds words : List ℕ) where
-  abbrev answered : RowAnswer
-  answered = answerOf l s f kinds words al
-
+module _ (l al : ℕ) (kinds : List ℕ) where
   abbrev g : Got
   g = reading (eqb l Cpp) kinds
 
-  -- A refusal of the row.
-  refusal-told : {e : TypeNameError} {m : ℕ} {tree : List ℕ} → answered ≡ refused e m → ReadsRow answered (Refused e m) tree
-  unfolding answer-in
-  refusal-told {e} {m} {tree} q = subst (λ (o : RowAnswer). ReadsRow o (Refused e m) tree) (sym q) (record { answered = refl; in-front = tt })
-
-  pub reads-refused : {e : TypeNameError} {tree : List ℕ} → prescan l kinds ≡ Prescan.refused e → ReadsRow answered (Refused e 0) tree
-  reads-refused q = refusal-told (prescan-refused l s f al kinds words q)
+  pub tree-refused : {e : TypeNameError} {tree : List ℕ} → prescan l kinds ≡ Prescan.refused e → TreeSays kinds al (row-tree l kinds) (R.Refused e 0) tree
+  unfolding row-tree after-prescan
+  tree-refused q = record { says = (omega arith, ap (after-prescan l kinds) q) }
 
   module _ (t : (t : Scan) × (prescan l kinds ≡ passed t)) where
-    pub reads-tree : {n m : ℕ} {a : Answer} {tree : List ℕ} → TreeRead kinds al g n m tree → a ≡ answer-in (read (limited al (after-prescan l s f kinds words g)))
-        → ReadsRow answered a tree
-    reads-tree {a = a} {tree} r q =
-        subst (λ (o : RowAnswer). ReadsRow o a tree) (sym (prescan-passed l s f al kinds words (t .1))) (record { answered = q; in-front = tree-in-front l s f al kinds words r })
+    row-reads : row-tree l kinds ≡ tree-of kinds g
+    unfolding row-tree after-prescan
+    row-reads = ap (after-prescan l kinds) (t .1)
 
-    pub reads-parse-refused : {r : Parsed} {e : TypeNameError} {m : ℕ} {tree : List ℕ} → r ≡ R.Refused e m → Parses kinds al g r tree → ReadsRow answered (Refused e m) tree
-    reads-parse-refused {e = e} {m} q h =
-        let w = parse-refused q h in
-        refusal-told (prescan-passed l s f al kinds words (t .1) ∙ row-refused l s f al kinds words g e m (w .0) (w .1))
+    at-end : whole-row kinds (length kinds) false ≡ true
+    unfolding whole-row
+    at-end = rw (eq-eqb (length kinds) (length kinds) refl) refl
 
-    pub reads-parse-over : {r : Parsed} {tree : List ℕ} → r ≡ R.AllowancePassed → Parses kinds al g r tree → ReadsRow answered (Refused AllowancePassed al) tree
-    reads-parse-over q h = refusal-told (prescan-passed l s f al kinds words (t .1) ∙ row-over l s f al kinds words g (parse-over q h))
+    not-at-end : (at : ℕ) (half : Bool) → (at ≢ length kinds) ⊎ (half ≡ true) → whole-row kinds at half ≡ false
+    unfolding whole-row
+    not-at-end at half c = ⊎-elim (λ (q : at ≢ length kinds). rw (ne-eqb at (length kinds) q) refl) (λ (q : half ≡ true). rw q (and-false (eqb at (length kinds)))) c
+
+    tree-told : {n m : ℕ} {tree : List ℕ} → TreeRead kinds al g n m tree → TreeTold kinds al (tree-of kinds g) (R.Tree n m) tree
+    unfolding tree-of
+    tree-told r = (
+      r .nodes,
+      rw (r .is, at-end) refl,
+      record {
+        allowed = r .allowed;
+        counted = r .counted;
+        few = omega (arith, two-nodes kinds (eqb l Cpp) (r .is), r .counted);
+        written = r .written;
+        stands = tree-stands (eqb l Cpp) r;
+      },
+    )
+
+    refused-told : {e : TypeNameError} {m : ℕ} → (g ≡ bad (refusal e) m) ⊎ LeftOver kinds g e m → tree-of kinds g ≡ refused e m
+    unfolding tree-of refusal-of
+    refused-told c =
+        ⊎-elim (λ q. rw q refl) (λ (o : LeftOver kinds g _ _). rw (o .is, o .error, not-at-end (o .at) (o .half) (o .over)) refl) c
+
+    over-told : (d : Got) → al < steps d → al < row-steps (tree-of kinds d)
+    unfolding tree-of steps row-steps
+    over-told (bad e m) p = p
+    over-told (got x at half m) p = by (whole-row kinds at half)
+      where
+        by : (b : Bool) → al < row-steps (if b then accepted x m else refused UnexpectedTokenAfterTypeName m)
+        by true = p
+        by false = p
+
+    says-by : (r : Parsed) (tree : List ℕ) → ParseSays kinds al g r tree → TreeTold kinds al (tree-of kinds g) r tree
+    says-by (R.Tree n m) tree h = tree-told h
+    says-by (R.Refused e m) tree h = (h .0, refused-told (h .1))
+    says-by R.AllowancePassed tree h = over-told g h
+
+    pub tree-parsed : {r : Parsed} {tree : List ℕ} → Parses kinds al g r tree → TreeSays kinds al (row-tree l kinds) r tree
+    tree-parsed {r} {tree} h = record { says = subst (λ (o : RowAnswer). TreeTold kinds al o r tree) (sym row-reads) (says-by r tree (h .says)) }

@@ -11,7 +11,8 @@ use Rattle.rows.specs.declared.answer.TypeNameError.{TypeNameError}
 use Rattle.reader.specs.Nodes.{count, node-width, records}
 use Rattle.reader.specs.Laws.NodeNumbers.{three-each}
 use Rattle.reader.specs.Laws.Buffer.{lent, given-back, holds}
-use Rattle.type_name.specs.Answers.{RowAnswer, accepted, refused, answer-in, filled, buffer-in, read}
+use Rattle.type_name.specs.FileRow.{read}
+use Rattle.type_name.specs.Answers.{RowAnswer, accepted, refused, answer-in, filled, buffer-in}
 use Rattle.type_name.specs.EntrySays.{InFront, ReadsRow, Fits, settled}
 
 module _ {a : Answer} (tree : List ℕ) where

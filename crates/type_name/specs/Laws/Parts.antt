@@ -2,8 +2,10 @@
 -- Assumes nothing.
 use Prim.Native.Nat.{ℕ, _≤_}
 use mathlib.Core.Path.{_≡_}
+use mathlib.Core.Bool.{Bool, true, _&&_}
+use native.Mathlib.Omega.{arith}
 use mathlib.Core.List.{List}
-use lib.Dec.{leb, leb→le}
+use lib.Dec.{T, leb, leb→le, le→leb}
 use mir.Facts.{and-yes}
 use Rattle.rows.specs.Records.{RowToken, Row, row}
 use Rattle.rows.specs.Refusals.{refusalOf}
@@ -38,6 +40,17 @@ pub bounds : (low high : ℕ) (e : TypeNameError) → Between low high e → (lo
 bounds low high e t =
     let u = and-yes (leb low (refusalOf e .number)) (leb (refusalOf e .number) high) t in
     (leb→le low (refusalOf e .number) (u .0), leb→le (refusalOf e .number) high (u .1))
+
+-- A wider range.
+pub wider : (low high low′ high′ : ℕ) → low′ ≤ low → high ≤ high′ → (e : TypeNameError) → Between low high e → Between low′ high′ e
+wider low high low′ high′ p q e t =
+    let u = bounds low high e t in
+    both (leb low′ (refusalOf e .number)) (leb (refusalOf e .number) high′)
+    (le→leb low′ (refusalOf e .number) (omega (arith, u .0)))
+    (le→leb (refusalOf e .number) high′ (omega (arith, u .1)))
+  where
+    both : (a b : Bool) → T a → T b → T (a && b)
+    both true true u v = tt
 
 -- A file has one row and one head.
 pub one-row : (r : Row) (ts ts′ : List RowToken) → r ≡ row ts → r ≡ row ts′ → ts ≡ ts′

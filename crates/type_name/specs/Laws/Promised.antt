@@ -10,7 +10,7 @@ use lib.Seq.{take-append-seam}
 use lib.Dec.{eqb}
 use Rattle.rows.specs.Languages.{Cpp}
 use Rattle.rows.specs.Format.{format, head-length, most-tokens}
-use Rattle.rows.specs.Records.{RowToken, kinds-of}
+use Rattle.rows.specs.Records.{RowToken, kinds-of, words-of}
 use Rattle.rows.specs.Laws.RowFacts.{good-row}
 use Rattle.rows.specs.declared.answer.Answer.{Answer}
 use Rattle.rows.specs.declared.answer.Answer.the-variants.{Accepted}
@@ -25,17 +25,19 @@ use Rattle.reader.specs.Laws.Bounds.{nesting}
 use Rattle.reader.specs.Laws.Openers.{one-G-each, one-B-each}
 use Rattle.reader.specs.Laws.Groups.{partner, below-each}
 use Rattle.reader.specs.Laws.WrittenOut.{kinds-in, angles-as-often, else-same, same-throughout}
-use Rattle.type_name.specs.Answers.{accepted, refused, Outcome, untouched, read, outcome, answer-in, answer, filled, buffer-in, final-buffer}
+use Rattle.type_name.specs.AnswerNumbers.{answer-numbers}
+use Rattle.type_name.specs.FileRow.{Outcome, untouched, read}
+use Rattle.type_name.specs.Answers.{RowAnswer, accepted, refused, outcome, answer-in, answer, filled, buffer-in, final-buffer}
 use Rattle.type_name.specs.Promises.{Answered, Buffered, AcceptedAs, TreeDefined, BracketsOf, tokens-in, WrittenAs, Promised}
 use Rattle.type_name.specs.Laws.Parts.{is-refused, nodes-in, steps-in, one-row}
-use Rattle.type_name.specs.Laws.AcceptedRow.{FileAccepted, accepted-file}
+use Rattle.type_name.specs.Laws.AcceptedRow.{RowRead, FileAccepted, accepted-read, accepted-file}
 use Rattle.type_name.specs.Laws.RowTokens.{kinds-known, worded, same-kinds}
 use Rattle.type_name.specs.Laws.Stable.{comes-back}
 
 -- ---- the tree is the definition's
 
 -- An accepted answer comes of an accepted tree.
-from-answer : (o : Outcome) (nodes steps : ℕ) → answer-in o ≡ Accepted nodes steps → (x : Nodes) × (o ≡ read (accepted x steps)) × (count x ≡ nodes)
+from-answer : (o : Outcome RowAnswer) (nodes steps : ℕ) → answer-in o ≡ Accepted nodes steps → (x : Nodes) × (o ≡ read (accepted x steps)) × (count x ≡ nodes)
 unfolding answer-in
 from-answer (untouched e) nodes steps q = let clash : _≡_ {A = ℕ} 1 0 = ap is-refused q in absurd (omega (arith, clash))
 from-answer (read (accepted x m)) nodes steps q = (x, ap (λ (k : ℕ). read (accepted x k)) (ap steps-in q), ap nodes-in q)
@@ -57,7 +59,7 @@ module _ (file before : List ℕ) (a : Answer) (after : List ℕ) (answered : An
         tree = t .0;
         accepted-as = record {
           answered = q ∙ ap (λ (k : ℕ). Accepted k steps) (sym (t .2));
-          row-read = f .1 .row-read;
+          row-read = f .1 .row-is;
           tree-held = rw w (front (length before) (t .0));
         };
         defined = t .1;
@@ -74,7 +76,7 @@ module _ (file before : List ℕ) (a : Answer) (after : List ℕ) (answered : An
       let same : records y ≡ records x = sym (t .accepted-as .tree-held) ∙ ap (λ (k : ℕ). take k after) (sym long) ∙ p .tree-held in
       let is-read : outcome file (length before) ≡ read (accepted x steps) = t .defined ∙ ap (λ (z : Nodes). read (accepted z steps)) (records-injective y x same) in
       let f = accepted-file file (length before) x steps is-read in
-      subst (λ (us : List RowToken). FileAccepted file us x steps) (one-row _ (f .0) ts (f .1 .row-read) (p .row-read)) (f .1)
+      subst (λ (us : List RowToken). FileAccepted file us x steps) (one-row _ (f .0) ts (f .1 .row-is) (p .row-read)) (f .1)
 
 -- ---- what holds of the tree of an accepted file
 
@@ -82,29 +84,32 @@ module _ (file : List ℕ) (ts : List RowToken) (x : Nodes) (steps : ℕ) (f : F
   abbrev cpp : Bool
   cpp = eqb (f .head-of .language) Cpp
 
+  abbrev is-read : RowRead (f .head-of .language) (kinds-of ts) x (f .row-accepted .reading-steps)
+  is-read = accepted-read (f .head-of .language) (f .head-of .standard) (f .head-of .flag) (kinds-of ts) (words-of ts) (f .row-accepted)
+
   known : KindsKnown (kinds-of ts)
-  known = kinds-known ts (good-row format file most-tokens head-length ts (f .row-read))
+  known = kinds-known ts (good-row format file most-tokens head-length ts (f .row-is))
 
   nested : depth x ≤ MAX-NESTING-DEPTH
-  nested = nesting (kinds-of ts) cpp (f .row-accepted .reads)
+  nested = nesting (kinds-of ts) cpp (is-read .reads)
 
   brackets : BracketsOf (kinds-of ts) x
   brackets =
-      let ps = prescan-pairs (f .head-of .language) (kinds-of ts) (f .row-accepted .scan) (f .row-accepted .scanned) in
+      let ps = prescan-pairs (f .head-of .language) (kinds-of ts) (is-read .scan) (is-read .scanned) in
       record {
         pairs = ps .0;
         paired = ps .1;
-        one-G-each = one-G-each (kinds-of ts) known cpp (f .row-accepted .reads);
-        one-B-each = one-B-each (kinds-of ts) known cpp (f .row-accepted .reads);
-        partner = partner (kinds-of ts) known (ps .0) (ps .1) cpp (f .row-accepted .reads);
-        below-each = below-each (kinds-of ts) known (ps .0) (ps .1) cpp (f .row-accepted .reads);
+        one-G-each = one-G-each (kinds-of ts) known cpp (is-read .reads);
+        one-B-each = one-B-each (kinds-of ts) known cpp (is-read .reads);
+        partner = partner (kinds-of ts) known (ps .0) (ps .1) cpp (is-read .reads);
+        below-each = below-each (kinds-of ts) known (ps .0) (ps .1) cpp (is-read .reads);
       }
 
   written-as : WrittenAs (tokens-in ts) (kinds-of ts) x
   written-as =
-      let w = worded ts (good-row format file most-tokens head-length ts (f .row-read)) in
+      let w = worded ts (good-row format file most-tokens head-length ts (f .row-is)) in
       let k : KindsKnown (kinds-in (tokens-in ts)) = rw (same-kinds ts) known in
-      let r : reading cpp (kinds-in (tokens-in ts)) ≡ got x (f .row-accepted .at) (f .row-accepted .half) (f .row-accepted .reading-steps) = rw (same-kinds ts) (f .row-accepted .reads) in
+      let r : reading cpp (kinds-in (tokens-in ts)) ≡ got x (is-read .at) (is-read .half) (f .row-accepted .reading-steps) = rw (same-kinds ts) (is-read .reads) in
       record {
         angles-as-often = angles-as-often (tokens-in ts) w k cpp r;
         else-same = else-same (tokens-in ts) w k cpp r;
@@ -118,6 +123,7 @@ promised file before a after answered buffered =
     let held = held-tree file before a after answered buffered in
     record {
       answered = answered;
+      numbered = ap answer-numbers answered;
       buffered = buffered;
       tree-defined = tree-defined file before a after answered buffered;
       nested = λ ts x steps p. nested file ts x steps (held ts x steps p);

@@ -8,8 +8,9 @@ use native.Mathlib.Omega.{arith}
 use lib.ListN.{length, getD, drop}
 use lib.Seq.{getD-drop, drop-drop}
 use lib.Dec.{leb}
-use Rattle.rows.specs.Format.{Format, short-bytes, at-kind, at-span, token-length}
-use Rattle.rows.specs.Records.{little-endian, Row, row, length-at, kind-at, span-start-at, span-end-at, word-at, word-fits, length-fits, well-formed, found, after-record, records-from}
+use Rattle.rows.specs.Format.{short-bytes, at-kind, at-span, span-bytes, token-length}
+use Rattle.rows.specs.declared.format.Format.{Format}
+use Rattle.rows.specs.Records.{little-endian, Tokens, malformed, tokens, Row, row, length-at, kind-at, span-start-at, span-end-at, word-at, word-fits, length-fits, well-formed, found, after-record, tokens-from, to-end, records-from}
 use Rattle.rows.specs.declared.token.TokenRecord.{TokenRecord}
 use Rattle.rows.specs.declared.token.TokenRecord.the-variants as TokenRecord
 
@@ -56,29 +57,38 @@ module _ (f : Format) (file file′ : List ℕ) (n : ℕ) (same : drop n file′
     formed-same : well-formed f file′ at ≡ well-formed f file at
     unfolding well-formed span-start-at span-end-at
     formed-same =
-        rw (long, kind-same, fits-same, number-same (f .span-bytes) (at + at-span) (omega arith), number-same (f .span-bytes) (at + at-span + f .span-bytes) (omega arith)) refl
+        rw (long, kind-same, fits-same, number-same (span-bytes f) (at + at-span) (omega arith), number-same (span-bytes f) (at + at-span + span-bytes f) (omega arith)) refl
 
     found-same : found f file′ at ≡ found f file at
     unfolding found
     found-same = rw (formed-same, kind-same, length-same) refl
 
-    after-same : (t : TokenRecord) (rest rest′ : ℕ → Row) → ((next : ℕ) → n ≤ next → rest′ next ≡ rest next) → after-record f file′ at t rest′ ≡ after-record f file at t rest
+    after-same : (t : TokenRecord) (rest rest′ : ℕ → Tokens) → ((next : ℕ) → n ≤ next → rest′ next ≡ rest next) → after-record f file′ at t rest′ ≡ after-record f file at t rest
     unfolding after-record
     after-same TokenRecord.Malformed rest rest′ ih = refl
     after-same (TokenRecord.Formed kind long) rest rest′ ih = rw (word-same, ih (at + long) (omega arith)) refl
 
-  at-end-same : (b b′ : Bool) (r r′ : Row) → b′ ≡ b → r′ ≡ r
-      → _≡_ {A = Row} (elim b′ as (λ _. Row) [ true ↦ row [] | false ↦ r′ ]) (elim b as (λ _. Row) [ true ↦ row [] | false ↦ r ])
-  at-end-same true b′ r r′ p q = rw p refl
-  at-end-same false b′ r r′ p q = rw p q
+  at-end-same : (b b′ : Bool) (at : ℕ) (r r′ : Tokens) → b′ ≡ b → r′ ≡ r
+      → _≡_ {A = Tokens} (elim b′ as (λ _. Tokens) [ true ↦ tokens [] at | false ↦ r′ ]) (elim b as (λ _. Tokens) [ true ↦ tokens [] at | false ↦ r ])
+  at-end-same true b′ at r r′ p q = rw p refl
+  at-end-same false b′ at r r′ p q = rw p q
+
+  tokens-same : (most at : ℕ) → n ≤ at → tokens-from f file′ most at ≡ tokens-from f file most at
+  unfolding tokens-from
+  tokens-same zero at p = refl
+  tokens-same (suc most) at p =
+      let rest : ℕ → Tokens = λ next. tokens-from f file most next in
+      let rest′ : ℕ → Tokens = λ next. tokens-from f file′ most next in
+      at-end-same (leb (length file) at) (leb (length file′) at) at (after-record f file at (found f file at) rest) (after-record f file′ at (found f file′ at) rest′)
+      (ap (λ (k : ℕ). leb k at) long)
+      (ap (λ (t : TokenRecord). after-record f file′ at t rest′) (found-same at p) ∙ after-same at p (found f file at) rest rest′ (λ next q. tokens-same most next q))
+
+  end-same : (r : Tokens) → to-end f file′ r ≡ to-end f file r
+  unfolding to-end
+  end-same (malformed offset) = refl
+  end-same (tokens ts next) = rw long refl
 
   -- The records from an offset behind n on are the same, at the same places.
   pub records-same : (most at : ℕ) → n ≤ at → records-from f file′ most at ≡ records-from f file most at
   unfolding records-from
-  records-same zero at p = rw long refl
-  records-same (suc most) at p =
-      let rest : ℕ → Row = λ next. records-from f file most next in
-      let rest′ : ℕ → Row = λ next. records-from f file′ most next in
-      at-end-same (leb (length file) at) (leb (length file′) at) (after-record f file at (found f file at) rest) (after-record f file′ at (found f file′ at) rest′)
-      (ap (λ (k : ℕ). leb k at) long)
-      (ap (λ (t : TokenRecord). after-record f file′ at t rest′) (found-same at p) ∙ after-same at p (found f file at) rest rest′ (λ next q. records-same most next q))
+  records-same most at p = ap (to-end f file′) (tokens-same most at p) ∙ end-same (tokens-from f file most at)

@@ -20,12 +20,12 @@ use Rattle.rows.specs.declared.head.FileHead.the-variants.{Formed}
 use Rattle.reader.specs.Nodes.{Nodes, none, node, T-node, G-node, L-node, A-node, count, records}
 use Rattle.reader.specs.Standing.{tokens-of}
 use Rattle.reader.specs.Written.{Token, sign}
-use Rattle.type_name.specs.Answers.{unlimited, answer, filled, final-buffer}
+use Rattle.type_name.specs.Answers.{unlimited, row-steps, answer, filled, final-buffer}
 use Rattle.type_name.specs.Promises.{Answered, Buffered, AcceptedAs, Promised}
 use Rattle.type_name.specs.Lines.{file-line}
 use Rattle.type_name.specs.StarredRows.{word, int-row, long-long}
 use Rattle.type_name.specs.Laws.Parts.{is-refused, one-row, one-head}
-use Rattle.type_name.specs.Laws.OnlyThen.{row-steps, Spent, only-then}
+use Rattle.type_name.specs.Laws.OnlyThen.{Spent, only-then}
 
 -- ---- readers
 

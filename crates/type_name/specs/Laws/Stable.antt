@@ -6,7 +6,6 @@ use mathlib.Core.Path.{_≡_, refl, ap, subst, _∙_}
 use mathlib.Core.Bool.{Bool, true, false, not, _&&_}
 use mathlib.Core.List.{List}
 use native.Mathlib.Omega.{arith}
-use borrow.Author.Tests.{le-ltb}
 use lib.ListN.{length, getD, length-drop}
 use lib.Dec.{T, leb, ltb, leb→le}
 use Rattle.rows.specs.Format.{format, head-length, at-language, at-standard, most-tokens, meant}
@@ -19,9 +18,11 @@ use Rattle.rows.specs.declared.head.Meaning.the-variants.{Means, Unknown}
 use Rattle.rows.specs.declared.head.FileHead.{FileHead}
 use Rattle.rows.specs.declared.head.FileHead.the-variants.{Formed, Refused}
 use Rattle.reader.specs.Nodes.{Nodes, numbers-per-token, count, records}
-use Rattle.type_name.specs.Answers.{accepted, answerOf, read, of-row, of-records, of-head, outcome, answer-in, answer, filled, buffer-in, final-buffer}
+use Rattle.type_name.specs.FileRow.{read, on-read}
+use Rattle.type_name.specs.Answers.{accepted, answerOf, row-answer, outcome, answer-in, answer, filled, buffer-in, final-buffer}
 use Rattle.type_name.specs.Promises.{NotBelow}
 use Rattle.type_name.specs.Laws.Parts.{one-head}
+use Rattle.type_name.specs.Laws.FileRow.{row-fits}
 use Rattle.type_name.specs.Laws.AcceptedRow.{RowAccepted, FileAccepted, row-stable}
 use Rattle.type_name.specs.Laws.SameRecords.{records-same}
 
@@ -44,7 +45,7 @@ module _ (file : List ℕ) where
   head-long : LongHead file (head format file)
   unfolding head head-formed
   head-long =
-      by-if (LongHead file) (ltb (format .file-limit) (length file)) (λ _. tt) λ _.
+      by-if (LongHead file) (ltb (format .«file_limit») (length file)) (λ _. tt) λ _.
       by-if (LongHead file) (not (head-formed format file)) (λ _. tt) λ t.
       with-long (meant format (getD file at-language 0) (getD file at-standard 0)) (leb→le head-length (length file) (first-of (leb head-length (length file)) _ _ _ t))
 
@@ -59,7 +60,7 @@ module _ (file file′ before′ : List ℕ) (ts : List RowToken) (x : Nodes) (s
       let long : head-length ≤ length file = formed-long file (n .head-of) (n .formed) in
       let long′ : head-length ≤ length file′ = formed-long file′ (n .head-of′) (n .formed′) in
       let same : length file′ ≡ length file = omega (arith, long, long′, length-drop head-length file, length-drop head-length file′, ap length (n .same-records)) in
-      records-same format file file′ head-length (n .same-records) same most-tokens head-length (omega arith) ∙ f .row-read
+      records-same format file file′ head-length (n .same-records) same most-tokens head-length (omega arith) ∙ f .row-is
 
   same-answer : answerOf (n .head-of′ .language) (n .head-of′ .standard) (n .head-of′ .flag) (kinds-of ts) (words-of ts) (n .head-of′ .allowance) ≡ accepted x steps
   same-answer =
@@ -71,8 +72,8 @@ module _ (file file′ before′ : List ℕ) (ts : List RowToken) (x : Nodes) (s
       (n .same-or-later) (n .enough))
 
   same-outcome : outcome file′ (length before′) ≡ read (accepted x steps)
-  unfolding outcome of-head of-records of-row
-  same-outcome = rw (n .formed′, same-row, le-ltb (length before′) (numbers-per-token * length ts) (n .room), same-answer) refl
+  unfolding outcome on-read row-answer
+  same-outcome = rw (row-fits file′ (length before′) (n .head-of′) (n .formed′) same-row refl (n .room), same-answer) refl
 
   pub comes-back : (answer file′ (length before′) ≡ Accepted (count x) steps) × (final-buffer file′ before′ ≡ filled (length before′) (records x))
   unfolding answer answer-in final-buffer buffer-in

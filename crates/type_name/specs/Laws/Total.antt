@@ -1,33 +1,28 @@
 -- Every list of bytes and every buffer has one answer, its number is one of document 01's, and a refused answer's buffer is as document 01 says.
 -- (That there is one answer is in the types: `answer` and `final-buffer` are functions of the file and the buffer, defined everywhere.)
 -- Assumes nothing.
-use Prim.Native.Nat.{ℕ, _+_, _-_, _*_, _≤_, _<_}
+use Prim.Native.Nat.{ℕ, _-_, _≤_, _<_}
 use mathlib.Core.Path.{_≡_, refl, ap}
 use mathlib.Core.Logic.{_⊎_, inl, inr}
-use mathlib.Core.Bool.{Bool, true, false, _&&_}
 use mathlib.Core.List.{List, [], _∷_}
 use native.Mathlib.Omega.{arith}
 use lib.ListN.{length, replicate}
-use lib.Dec.{T, leb, ltb, eqb, le→leb}
+use lib.Dec.{T, leb, eqb}
 use Rattle.rows.specs.Notation.{_is-one-of_}
 use Rattle.rows.specs.Languages.{Cpp}
-use Rattle.rows.specs.Format.{format, head-length, most-tokens}
-use Rattle.rows.specs.Records.{RowToken, Row, row, head, records-from, kinds-of, words-of}
-use Rattle.rows.specs.Records
+use Rattle.rows.specs.Format.{format}
+use Rattle.rows.specs.Records.{kinds-of, words-of}
 use Rattle.rows.specs.Refusals.{refusalOf}
 use Rattle.rows.specs.Laws.Tests.{by-if}
-use Rattle.rows.specs.Laws.Numbered.{Between, HeadNumbered, head-numbered, RowNumbered, records-numbered}
+use Rattle.rows.specs.Laws.Numbered.{Between}
 use Rattle.rows.specs.declared.answer.TypeNameError.{TypeNameError}
 use Rattle.rows.specs.declared.answer.TypeNameError.the-variants.{FileTooLong, InvalidHead, UnknownProfile, InvalidRecord, TooManyRecords, ShortBuffer, Empty, UnexpectedClosingDelimiter, UnexpectedAngle, TopLevelComma, UnexpectedEndToken, UnclosedDelimiter, UnclosedAngle, MissingTypeWord, InvalidBoundaryToken, NestingLimitExceeded, UnterminatedGroup, MismatchedClosingDelimiter, UnexpectedTokenAfterTypeName, AllowancePassed, NoTypeName, NotAvailableInProfile}
 use Rattle.rows.specs.declared.answer.Answer.the-variants.{Refused}
-use Rattle.rows.specs.declared.head.Head.{Head}
-use Rattle.rows.specs.declared.head.FileHead.{FileHead}
-use Rattle.rows.specs.declared.head.FileHead.the-variants as FileHead
 use Rattle.prescan.specs.Prescan.{Scanned, passed, prescan}
 use Rattle.prescan.specs.Prescan
 use Rattle.prescan.specs.Laws.Numbered.{prescan-numbered}
 use Rattle.prescan.specs.Laws.Numbered
-use Rattle.reader.specs.Nodes.{Nodes, numbers-per-token}
+use Rattle.reader.specs.Nodes.{Nodes}
 use Rattle.reader.specs.Reading.{Got, got, bad, Fault, refusal, no-list, reading}
 use Rattle.reader.specs.Laws.Numbered.{FaultNumbered, reading-numbered}
 use Rattle.reader.specs.Laws.Numbered as Read
@@ -35,8 +30,10 @@ use Rattle.structure.specs.Said.{Said, holds, fails}
 use Rattle.profile.specs.Profile.{missing-feature}
 use Rattle.profile.specs.declared.profile.Lack.{Lack}
 use Rattle.profile.specs.declared.profile.Lack.the-variants.{Nothing, Lacks}
-use Rattle.type_name.specs.Answers.{RowAnswer, accepted, refused, refusal-of, after-structure, after-reading, structure-of, whole-row, after-prescan, from-prescan, unlimited, limited, answerOf, Outcome, untouched, read, of-row, of-records, of-head, outcome, answer-in, answer, filled, buffer-in, final-buffer}
-use Rattle.type_name.specs.Laws.Parts.{is-refused, number-in, bounds}
+use Rattle.type_name.specs.FileRow.{HeadRow, Outcome, untouched, read, on-read, file-row}
+use Rattle.type_name.specs.Answers.{RowAnswer, accepted, refused, on-tree, refusal-of, whole-row, tree-of, after-prescan, row-tree, structure-of, by-structure, by-profile, tree-checked, unlimited, row-steps, limited, answerOf, row-answer, outcome, answer-in, answer, filled, buffer-in, final-buffer}
+use Rattle.type_name.specs.Laws.Parts.{is-refused, number-in, bounds, wider}
+use Rattle.type_name.specs.Laws.FileRow.{Comes, file-comes}
 
 -- ---- the numbers
 
@@ -80,89 +77,73 @@ abbrev pub Unspent : RowAnswer → Type 0
 Unspent (accepted x m) = Unit {0}
 Unspent (refused e m) = Between 10 23 e ⊎ Between 30 40 e
 
-abbrev Placed : Outcome → Type 0
+abbrev Placed : Outcome RowAnswer → Type 0
 Placed (untouched e) = Between 1 6 e
 Placed (read a) = RowPlaced a
 
--- A wider range.
-wider : (low high low′ high′ : ℕ) → low′ ≤ low → high ≤ high′ → (e : TypeNameError) → Between low high e → Between low′ high′ e
-wider low high low′ high′ p q e t =
-    let u = bounds low high e t in
-    both (leb low′ (refusalOf e .number)) (leb (refusalOf e .number) high′)
-    (le→leb low′ (refusalOf e .number) (omega (arith, u .0)))
-    (le→leb (refusalOf e .number) high′ (omega (arith, u .1)))
-  where
-    both : (a b : Bool) → T a → T b → T (a && b)
-    both true true u v = tt
+in-table : (e : TypeNameError) → Between 10 23 e ⊎ Between 30 40 e → Between 10 40 e
+in-table e (inl q) = wider 10 23 10 40 (omega arith) (omega arith) e q
+in-table e (inr q) = wider 30 40 10 40 (omega arith) (omega arith) e q
+
+unspent-placed : (a : RowAnswer) → Unspent a → RowPlaced a
+unspent-placed (accepted x m) p = tt
+unspent-placed (refused e m) p = in-table e p
 
 limited-placed : (allowance : ℕ) (a : RowAnswer) → Unspent a → RowPlaced (limited allowance a)
 unfolding limited
-limited-placed allowance (accepted x m) p = by-if RowPlaced (leb m allowance) (λ _. tt) (λ _. tt)
-limited-placed allowance (refused e m) p = by-if RowPlaced (leb m allowance) (λ _. in-table p) (λ _. tt)
-  where
-    in-table : Between 10 23 e ⊎ Between 30 40 e → Between 10 40 e
-    in-table (inl q) = wider 10 23 10 40 (omega arith) (omega arith) e q
-    in-table (inr q) = wider 30 40 10 40 (omega arith) (omega arith) e q
+limited-placed allowance a p = by-if RowPlaced (leb (row-steps a) allowance) (λ _. unspent-placed a p) (λ _. tt)
+
+fault-unspent : (e : Fault) (m : ℕ) → FaultNumbered e → Unspent (refused (refusal-of e) m)
+unfolding refusal-of
+fault-unspent (refusal e) m p = inl (wider 20 22 10 23 (omega arith) (omega arith) e p)
+fault-unspent no-list m p = inl tt
+
+tree-unspent : (kinds : List ℕ) (g : Got) → Read.Numbered g → Unspent (tree-of kinds g)
+unfolding tree-of
+tree-unspent kinds (bad e m) p = fault-unspent e m p
+tree-unspent kinds (got x at half m) p = by-if Unspent (whole-row kinds at half) (λ _. tt) (λ _. inl tt)
 
 module _ (language standard flag : ℕ) (kinds words : List ℕ) where
-  structure-unspent : (x : Nodes) (m : ℕ) (l : Lack) → Unspent (after-structure language standard flag kinds words x m l)
-  unfolding after-structure
-  structure-unspent x m Nothing = tt
-  structure-unspent x m (Lacks f) = inr tt
-
-  reading-unspent : (x : Nodes) (m : ℕ) (s : Said) → Unspent (after-reading language standard flag kinds words x m s)
-  unfolding after-reading
-  reading-unspent x m (holds n) = structure-unspent x (m + n) (missing-feature language standard kinds words)
-  reading-unspent x m (fails n) = inr tt
-
-  fault-unspent : (e : Fault) (m : ℕ) → FaultNumbered e → Unspent (refused (refusal-of e) m)
-  unfolding refusal-of
-  fault-unspent (refusal e) m p = inl (wider 20 22 10 23 (omega arith) (omega arith) e p)
-  fault-unspent no-list m p = inl tt
-
-  by-whole : (b : Bool) (a : RowAnswer) (m : ℕ) → Unspent a → Unspent (elim b as (λ _. RowAnswer) [ true ↦ a | false ↦ refused UnexpectedTokenAfterTypeName m ])
-  by-whole true a m p = p
-  by-whole false a m p = inl tt
-
-  prescan-unspent : (g : Got) → Read.Numbered g → Unspent (after-prescan language standard flag kinds words g)
+  prescan-unspent : (r : Scanned) → Numbered.Numbered r → Unspent (after-prescan language kinds r)
   unfolding after-prescan
-  prescan-unspent (bad e m) p = fault-unspent e m p
-  prescan-unspent (got x at half m) p =
-      by-whole (whole-row language standard flag kinds words at half) (after-reading language standard flag kinds words x m (structure-of language standard flag kinds words x)) m
-      (reading-unspent x m (structure-of language standard flag kinds words x))
+  prescan-unspent (Prescan.refused e) p = inl (wider 10 18 10 23 (omega arith) (omega arith) e p)
+  prescan-unspent (passed s) p = tree-unspent kinds (reading (eqb language Cpp) kinds) (reading-numbered (eqb language Cpp) kinds)
 
-  from-unspent : (r : Scanned) → Numbered.Numbered r → Unspent (from-prescan language standard flag kinds words r)
-  unfolding from-prescan
-  from-unspent (Prescan.refused e) p = inl (wider 10 18 10 23 (omega arith) (omega arith) e p)
-  from-unspent (passed s) p = prescan-unspent (reading (eqb language Cpp) kinds) (reading-numbered (eqb language Cpp) kinds)
+  structure-unspent : (x : Nodes) (m : ℕ) (s : Said) → Unspent (by-structure x m s)
+  unfolding by-structure
+  structure-unspent x m (holds n) = tt
+  structure-unspent x m (fails n) = inr tt
+
+  profile-unspent : (x : Nodes) (m : ℕ) (l : Lack) → Unspent (by-profile x m l)
+  unfolding by-profile
+  profile-unspent x m Nothing = tt
+  profile-unspent x m (Lacks f) = inr tt
+
+  next-unspent : (a : RowAnswer) (next : Nodes → ℕ → RowAnswer) → Unspent a → ((x : Nodes) (m : ℕ) → Unspent (next x m)) → Unspent (on-tree a next)
+  unfolding on-tree
+  next-unspent (accepted x m) next p q = q x m
+  next-unspent (refused e m) next p q = p
 
   pub unlimited-unspent : Unspent (unlimited language standard flag kinds words)
-  unfolding unlimited
-  unlimited-unspent = from-unspent (prescan language kinds) (prescan-numbered language kinds)
+  unfolding unlimited tree-checked row-tree
+  unlimited-unspent =
+      next-unspent _ _
+      (next-unspent (row-tree language kinds) _ (prescan-unspent (prescan language kinds) (prescan-numbered language kinds)) (λ x m. structure-unspent x m (structure-of language flag kinds words x)))
+      (λ x m. profile-unspent x m (missing-feature language standard kinds words))
 
   row-placed : (allowance : ℕ) → RowPlaced (answerOf language standard flag kinds words allowance)
   unfolding answerOf
   row-placed allowance = limited-placed allowance (unlimited language standard flag kinds words) unlimited-unspent
 
-of-row-placed : (h : Head) (room : ℕ) (ts : List RowToken) → Placed (of-row h room ts)
-unfolding of-row
-of-row-placed h room ts =
-    by-if Placed (ltb room (numbers-per-token * length ts)) (λ _. tt) λ _.
-    row-placed (h .language) (h .standard) (h .flag) (kinds-of ts) (words-of ts) (h .allowance)
-
-of-records-placed : (h : Head) (room : ℕ) (r : Row) → RowNumbered r → Placed (of-records h room r)
-unfolding of-records
-of-records-placed h room (Records.refused e) p = wider 4 5 1 6 (omega arith) (omega arith) e p
-of-records-placed h room (row ts) p = of-row-placed h room ts
-
-of-head-placed : (file : List ℕ) (room : ℕ) (h : FileHead) → HeadNumbered h → Placed (of-head file room h)
-unfolding of-head
-of-head-placed file room (FileHead.Refused e) p = wider 1 3 1 6 (omega arith) (omega arith) e p
-of-head-placed file room (FileHead.Formed h) p = of-records-placed h room (records-from format file most-tokens head-length) (records-numbered format file most-tokens head-length)
+read-placed : (file : List ℕ) (room : ℕ) (o : Outcome HeadRow) → Comes file room o → Placed (on-read o λ r. read (row-answer r))
+unfolding on-read row-answer
+read-placed file room (untouched e) c = c
+read-placed file room (read r) c =
+    row-placed (r .the-head .language) (r .the-head .standard) (r .the-head .flag) (kinds-of (r .tokens)) (words-of (r .tokens)) (r .the-head .allowance)
 
 outcome-placed : (file : List ℕ) (room : ℕ) → Placed (outcome file room)
 unfolding outcome
-outcome-placed file room = of-head-placed file room (head format file) (head-numbered format file)
+outcome-placed file room = read-placed file room (file-row format file room) (file-comes file room)
 
 -- ---- the buffer of a refused answer
 
@@ -176,7 +157,7 @@ none-less n =
     let same : n - 0 ≡ n = omega arith in
     ap (λ (k : ℕ). replicate {A = ℕ} k 0) same
 
-buffer-of : (before : List ℕ) (o : Outcome) → Placed o → (e : TypeNameError) (m : ℕ) → answer-in o ≡ Refused e m → RefusedBuffer before (buffer-in before o) e
+buffer-of : (before : List ℕ) (o : Outcome RowAnswer) → Placed o → (e : TypeNameError) (m : ℕ) → answer-in o ≡ Refused e m → RefusedBuffer before (buffer-in before o) e
 unfolding answer-in buffer-in filled
 buffer-of before (untouched e′) p e m q =
     let same : refusalOf e′ .number ≡ refusalOf e .number = ap number-in q in

@@ -1,0 +1,41 @@
+// Answers as numbers, in an array that the caller lends.
+
+use rows::answer::Answer;
+use rows::answer::refusal_of;
+ghost use mathlib.Core.Path.{_≡_};
+ghost use Rattle.type_name.specs.AnswerNumbers.{answer-code, answer-numbers};
+ghost use Rattle.exports.specs.Numbers.{put-front};
+
+// As many of `numbers` as `array` has room for.
+pub fn put_front(array: &mut [u32], numbers: &[u32])
+    ensures { λ _. ⌜ now (array .exit) ≡ put-front (now (numbers .entry)) (now (array .entry)) ⌝ }
+{
+    let mut i = 0;
+    while i < numbers.len() {
+        if array.len() <= i {
+            return;
+        }
+        array[i] = numbers[i];
+        i += 1;
+    }
+}
+
+// Puts the answer's numbers, and returns 0 if it is accepted, else the refusal's number.
+pub fn put_answer(array: &mut [u32], answer: Answer) -> u32
+    ensures returned { λ r. ⌜ r ≡ answer-code answer ⌝ }
+    ensures written { λ _. ⌜ now (array .exit) ≡ put-front (answer-numbers answer) (now (array .entry)) ⌝ }
+{
+    match answer {
+        Answer::Accepted { nodes, steps } => {
+            let numbers = [0, nodes, steps, 0];
+            put_front(array, &numbers);
+            0
+        }
+        Answer::Refused { error, steps } => {
+            let refusal = refusal_of(error);
+            let numbers = [refusal.number, refusal.token, refusal.detail, steps];
+            put_front(array, &numbers);
+            refusal.number
+        }
+    }
+}
