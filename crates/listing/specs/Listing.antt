@@ -4,12 +4,15 @@ use Prim.Native.Nat.{ℕ, zero, suc, _+_, _*_, _/_, min}
 use mathlib.Core.Bool.{Bool, _&&_}
 use mathlib.Core.List.{List, [], _∷_, _++_}
 use lib.ListN.{length, getD}
-use lib.Dec.{eqb, ltb}
+use lib.Dec.{ltb}
 use Rattle.rows.specs.Notation.{if_then_else_, _is-one-of_}
 use Rattle.rows.specs.Words.{bytes}
-use Rattle.reader.specs.Nodes.{number, G-node, B-node, L-node}
-use Rattle.reader.specs.Standing.{kind-of, token-of, extent-of}
-use Rattle.text.specs.Text.{ended}
+use Rattle.rows.specs.Refusals.{refusalOf}
+use Rattle.rows.specs.declared.answer.Refusal.{Refusal}
+use Rattle.rows.specs.declared.answer.Answer.{Answer}
+use Rattle.rows.specs.declared.answer.Answer.the-variants.{Accepted, Refused}
+use Rattle.reader.specs.Nodes.{number, G-node, B-node, L-node, node-width, kind-of, token-of, extent-of}
+use Rattle.text.specs.Text.{ended, longest-ended}
 
 -- Between the numbers of a line.
 abbrev pub space : ℕ
@@ -31,7 +34,7 @@ makes-level kind = kind is-one-of (number G-node ∷ number B-node ∷ number L-
 
 -- A node stands below the earlier node number `above`, which is a G, B or L: the extent counts the nodes of a subtree, itself included.
 unfoldable pub stands-below : List ℕ → ℕ → ℕ → Bool
-unfolding makes-level kind-of extent-of
+unfolding makes-level
 stands-below tree above node = makes-level (kind-of tree above) && ltb node (above + extent-of tree above)
 
 -- How many of the first n nodes a node stands below.
@@ -58,16 +61,38 @@ unfolding bytes
 accepted-line nodes steps = bytes "ok " ++ ended nodes space ++ ended steps newline
 
 -- "(Number, token, detail, steps)".
-unfoldable pub refused-line : (number token detail steps : ℕ) → List ℕ
+unfoldable pub refused-line : Refusal → (steps : ℕ) → List ℕ
 unfolding bytes
-refused-line number token detail steps = bytes "no " ++ ended number space ++ ended token space ++ ended detail space ++ ended steps newline
+refused-line refusal steps =
+    bytes "no " ++ ended (refusal .number) space ++ ended (refusal .token) space ++ ended (refusal .detail) space ++ ended steps newline
 
 -- How many nodes are listed: as many as the answer counts, and there are no more than the tree buffer has room for.
 unfoldable pub listed : ℕ → List ℕ → ℕ
-listed nodes tree = min nodes (length tree / 3)
+listed nodes tree = min nodes (length tree / node-width)
 
--- The four numbers of an answer (0, nodes, steps, 0 or number, token, detail, steps) and the tree buffer, as text.
-unfoldable pub listing : List ℕ → List ℕ → List ℕ
-listing answer tree =
-    if eqb (getD answer 0 0) 0 then accepted-line (getD answer 1 0) (getD answer 2 0) ++ node-lines tree (listed (getD answer 1 0) tree)
-    else refused-line (getD answer 0 0) (getD answer 1 0) (getD answer 2 0) (getD answer 3 0)
+-- An answer and the tree buffer, as text.
+unfoldable pub listing : Answer → (tree : List ℕ) → List ℕ
+listing (Accepted nodes steps) tree = accepted-line nodes steps ++ node-lines tree (listed nodes tree)
+listing (Refused e steps) tree = refused-line (refusalOf e) steps
+
+-- ---- how long lines get
+
+-- `ok` or `no`, and a space.
+abbrev pub opening-length : ℕ
+opening-length = 3
+
+-- Nodes and steps.
+abbrev pub accepted-line-length : ℕ
+accepted-line-length = opening-length + longest-ended + longest-ended
+
+-- Number, token, detail and steps.
+abbrev pub refused-line-length : ℕ
+refused-line-length = opening-length + longest-ended + longest-ended + longest-ended + longest-ended
+
+-- Level, letter, space, token and extent.
+abbrev pub node-line-length : ℕ
+node-line-length = longest-ended + 1 + 1 + longest-ended + longest-ended
+
+-- The longest first line, and a line for each node that a tree buffer of `room` numbers holds.
+abbrev pub listing-length : (room : ℕ) → ℕ
+listing-length room = refused-line-length + node-line-length * (room / node-width)

@@ -2,11 +2,13 @@
 
 use reader::nodes::BRACKETS_NODE;
 use reader::nodes::LIST_NODE;
-use reader::nodes::NODE_WIDTH;
 use reader::nodes::PARENTHESES_NODE;
+use reader::nodes::node_extent;
+use reader::nodes::node_kind;
 ghost use mathlib.Core.Path.{_≡_};
-ghost use Prim.Native.Nat.{_+_, _*_, _≤_, _<_};
+ghost use Prim.Native.Nat.{_*_, _≤_};
 ghost use lib.ListN.{length};
+ghost use Rattle.reader.specs.Nodes.{Recorded, node-width};
 ghost use Rattle.listing.specs.Listing.{makes-level, stands-below, level as level-of};
 
 // "Level (groups and lists above)": G, B and L count, A does not.
@@ -21,18 +23,18 @@ fn makes_level(kind: u32) -> bool
 
 // Whether `node` stands below the group or list that is node number `above`.
 fn stands_below(tree: &[u32], above: usize, node: usize) -> bool
-    requires { ⌜ 3 * above + 3 ≤ length (now tree) ⌝ }
+    requires { ⌜ Recorded (now tree) above ⌝ }
     ensures { λ r. ⌜ r ≡ stands-below (now (tree .entry)) above node ⌝ }
 {
-    if makes_level(tree[NODE_WIDTH * above]) {
-        let extent = tree[NODE_WIDTH * above + 2] as usize;
+    if makes_level(node_kind(tree, above)) {
+        let extent = node_extent(tree, above);
         return node < above + extent;
     }
     false
 }
 
 pub fn level(tree: &[u32], node: usize) -> usize
-    requires { ⌜ 3 * node ≤ length (now tree) ⌝ }
+    requires { ⌜ node-width * node ≤ length (now tree) ⌝ }
     ensures { λ r. ⌜ r ≡ level-of (now (tree .entry)) node ⌝ }
 {
     let mut count = 0;

@@ -3,41 +3,49 @@
 mod level;
 mod lines;
 
+use crate::lines::NODE_LINE_LENGTH;
+use crate::lines::REFUSED_LINE_LENGTH;
 use crate::lines::put_listing;
 use libc::STDIN_FILENO;
 use libc::STDOUT_FILENO;
-use type_name::export::type_name_read;
+use reader::nodes::NODE_WIDTH;
+use reader::nodes::NUMBERS_PER_TOKEN;
+use rows::row::MOST_TOKENS;
+use type_name::entry::parse_type_name;
 ghost use mathlib.Core.Path.{_≡_};
-ghost use lib.ListN.{length};
+ghost use Prim.Native.Nat.{_≤_};
+ghost use lib.ListN.{length, take};
 ghost use Rattle.io.specs.Counts.{Counts};
 ghost use Rattle.text.specs.Text.{Appended};
-ghost use Rattle.listing.specs.FileListing.{file-listing};
+ghost use Rattle.listing.specs.Listing.{listing-length};
+ghost use Rattle.listing.specs.FileListing.{file-listing, input-length, tree-length};
 
-// One byte more than a row file may have: input that fills it is too long, refusal 1.
-const INPUT_LENGTH: usize = 65537;
+// The format's file limit, which `list` asks of its input buffer.
+const FILE_LIMIT: usize = 65536;
 
-// Six numbers for each of 1,024 tokens: room for every row.
-const TREE_LENGTH: usize = 6144;
+// Input that fills it is too long, refusal 1.
+const INPUT_LENGTH: usize = FILE_LIMIT + 1;
 
-// The first line has at most 87 bytes, a node's line 65; each number of the tree buffer pays 22, and a node has three.
-const TEXT_LENGTH: usize = 135255;
+// Room for every row.
+const TREE_LENGTH: usize = NUMBERS_PER_TOKEN * MOST_TOKENS;
 
-// Puts the listing of a file in front of `text` and returns its length.
-fn list(file: &[u8], text: &mut [u8]) -> usize
-    requires { ⌜ 135255 ≡ length (now text) ⌝ }
+const TEXT_LENGTH: usize = REFUSED_LINE_LENGTH + NODE_LINE_LENGTH * (TREE_LENGTH / NODE_WIDTH);
+
+// Puts the listing of a file, the first `size` bytes of `input`, in front of `text` and returns its length.
+fn list(input: &[u8], size: usize, text: &mut [u8]) -> usize
+    requires { ⌜ (length (now input) ≡ input-length) × (size ≤ input-length) × (length (now text) ≡ listing-length tree-length) ⌝ }
     ensures counted { λ r. ⌜ Counts r (now (text .exit)) ⌝ }
-    ensures listed { λ r. ⌜ Appended (now (text .entry)) 0 (file-listing (now (file .entry))) r (now (text .exit)) ⌝ }
+    ensures listed { λ r. ⌜ Appended (now (text .entry)) 0 (file-listing (take size (now (input .entry)))) r (now (text .exit)) ⌝ }
 {
     let mut tree = [0u32; TREE_LENGTH];
-    let mut answer = [0u32; 4];
-    type_name_read(file, &mut tree, &mut answer);
-    put_listing(text, &answer, &tree)
+    let answer = parse_type_name(&input[..size], &mut tree);
+    put_listing(text, answer, &tree)
 }
 
 fn main() {
     let mut input = [0u8; INPUT_LENGTH];
-    let length = io::read_full(STDIN_FILENO, &mut input);
+    let size = io::read_full(STDIN_FILENO, &mut input);
     let mut text = [0u8; TEXT_LENGTH];
-    let end = list(&input[..length], &mut text);
+    let end = list(&input, size, &mut text);
     io::write_all(STDOUT_FILENO, &text[..end]);
 }

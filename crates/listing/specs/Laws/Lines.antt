@@ -1,6 +1,6 @@
 -- How the lines of a listing come together.
 -- Assumes nothing.
-use Prim.Native.Nat.{ℕ, zero, suc, _+_, _*_, _≤_, _<_}
+use Prim.Native.Nat.{ℕ, zero, suc, _+_, _*_, _/_, _≤_, _<_}
 use mathlib.Core.Path.{_≡_, refl, sym, ap, _∙_}
 use mathlib.Core.Bool.{Bool, true, false}
 use mathlib.Core.List.{List, [], _∷_, _++_}
@@ -8,13 +8,17 @@ use mathlib.Core.Logic.{_⊎_, ⊎-elim}
 use native.Mathlib.Omega.{arith}
 use native.Mathlib.Numerals.{add-one}
 use lib.ListN.{length, length-append, getD, List·getD-eq-default}
-use lib.Dec.{ltb}
-use borrow.Author.Tests.{eq-eqb, ne-eqb}
+use lib.Dec.{eqb, ltb}
+use borrow.Author.Tests.{ne-eqb}
 use Rattle.rows.specs.Words.{bytes}
 use Rattle.text.specs.Text.{Appended, ended}
 use Rattle.text.specs.Laws.Appending.{appended-as, appended-then, appended-none, ended-long}
-use Rattle.reader.specs.Standing.{kind-of, token-of, extent-of}
-use Rattle.listing.specs.Listing.{level, levels-of, stands-below, makes-level, letter, node-line, node-lines, accepted-line, refused-line, listed, listing, space, newline}
+use Rattle.rows.specs.Refusals.{refusalOf}
+use Rattle.rows.specs.declared.answer.Refusal.{Refusal}
+use Rattle.rows.specs.declared.answer.TypeNameError.{TypeNameError}
+use Rattle.rows.specs.declared.answer.Answer.the-variants.{Accepted, Refused}
+use Rattle.reader.specs.Nodes.{number, G-node, B-node, L-node, node-width, kind-of, token-of, extent-of}
+use Rattle.listing.specs.Listing.{level, levels-of, stands-below, makes-level, letter, node-line, node-lines, accepted-line, refused-line, listed, listing, space, newline, accepted-line-length, refused-line-length, node-line-length, listing-length}
 
 -- ---- kinds
 
@@ -27,8 +31,10 @@ makes-level-so (suc (suc (suc zero))) l u = refl
 makes-level-so (suc (suc (suc (suc k)))) l u = absurd (omega arith)
 
 pub makes-level-not : (k : ℕ) → (k < 1) ⊎ (4 ≤ k) → false ≡ makes-level k
-unfolding makes-level
-makes-level-not k out = rw (ne-eqb k 1 (λ e. ⊎-elim (λ l. omega (arith, l, e)) (λ g. omega (arith, g, e)) out), ne-eqb k 2 (λ e. ⊎-elim (λ l. omega (arith, l, e)) (λ g. omega (arith, g, e)) out), ne-eqb k 3 (λ e. ⊎-elim (λ l. omega (arith, l, e)) (λ g. omega (arith, g, e)) out)) refl
+unfolding makes-level number
+makes-level-not k out = rw (other (number G-node) (omega arith) (omega arith), other (number B-node) (omega arith) (omega arith), other (number L-node) (omega arith) (omega arith)) refl where
+  other : (n : ℕ) → 1 ≤ n → n < 4 → eqb k n ≡ false
+  other n l u = ne-eqb k n (λ e. ⊎-elim (λ p. omega (arith, p, e)) (λ p. omega (arith, p, e)) out)
 
 pub letter-same : (n k : ℕ) → k ≡ n → letter n ≡ letter k
 letter-same n k e = rw e refl
@@ -75,17 +81,18 @@ module _ (tree : List ℕ) (node : ℕ) where
 
 -- ---- lines
 
--- A node's line from its pieces, level and letter as the code found them.
-pub node-pieces : (tree : List ℕ) (i level-found letter-found : ℕ) → level-found ≡ level tree i → letter-found ≡ letter (kind-of tree i)
-    → ended level-found space ++ (letter-found ∷ []) ++ (space ∷ []) ++ ended (token-of tree i) space ++ ended (extent-of tree i) newline ≡ node-line tree i
+-- A node's line from its pieces, as the code found them.
+pub node-pieces : (tree : List ℕ) (i level-found letter-found token extent : ℕ) → level-found ≡ level tree i → letter-found ≡ letter (kind-of tree i)
+    → token ≡ token-of tree i → extent ≡ extent-of tree i
+    → ended level-found space ++ (letter-found ∷ []) ++ (space ∷ []) ++ ended token space ++ ended extent newline ≡ node-line tree i
 unfolding node-line
-node-pieces tree i lv lt e f = rw (e, f) refl
+node-pieces tree i lv lt to ex e f g h = rw (e, f, g, h) refl
 
-pub node-long : (tree : List ℕ) (i : ℕ) → length (node-line tree i) ≤ 65
+pub node-long : (tree : List ℕ) (i : ℕ) → length (node-line tree i) ≤ node-line-length
 unfolding node-line
 node-long tree i = simp length-append (omega (arith, ended-long (level tree i) space, ended-long (token-of tree i) space, ended-long (extent-of tree i) newline))
 
-pub nodes-long : (tree : List ℕ) (n : ℕ) → length (node-lines tree n) ≤ 65 * n
+pub nodes-long : (tree : List ℕ) (n : ℕ) → length (node-lines tree n) ≤ node-line-length * n
 unfolding node-lines
 nodes-long tree zero = omega arith
 nodes-long tree (suc n) = simp length-append (omega (arith, nodes-long tree n, node-long tree n))
@@ -102,7 +109,7 @@ module _ {entry tree : List ℕ} {at nodes : ℕ} where
   listing-start = record { within = omega arith; long = refl; so-far = appended-none entry at }
 
   -- Where the next line begins.
-  pub listing-room : {text : List ℕ} {end node : ℕ} → Listing entry at tree nodes text end node → node < nodes → at + 65 * nodes ≤ length entry → end + 65 ≤ length text
+  pub listing-room : {text : List ℕ} {end node : ℕ} → Listing entry at tree nodes text end node → node < nodes → at + node-line-length * nodes ≤ length entry → end + node-line-length ≤ length text
   listing-room {text} {end} {node} l less room = omega (arith, l .so-far .counts, l .long, nodes-long tree node)
 
   pub listing-on : {text next : List ℕ} {end end′ node : ℕ} → Listing entry at tree nodes text end node → node < nodes → Appended text end (node-line tree node) end′ next → length next ≡ length text
@@ -115,24 +122,45 @@ module _ {entry tree : List ℕ} {at nodes : ℕ} where
       let whole : node ≡ nodes = omega (arith, l .within, past) in
       appended-as (ap (node-lines tree) whole) (l .so-far)
 
-pub accepted-long : (nodes steps : ℕ) → length (accepted-line nodes steps) ≤ 45
+pub accepted-long : (nodes steps : ℕ) → length (accepted-line nodes steps) ≤ accepted-line-length
 unfolding accepted-line
 accepted-long nodes steps = simp length-append (omega (arith, ended-long nodes space, ended-long steps newline))
 
-pub refused-long : (number token detail steps : ℕ) → length (refused-line number token detail steps) ≤ 87
+pub refused-long : (refusal : Refusal) (steps : ℕ) → length (refused-line refusal steps) ≤ refused-line-length
 unfolding refused-line
-refused-long n t d s = simp length-append (omega (arith, ended-long n space, ended-long t space, ended-long d space, ended-long s newline))
+refused-long r s = simp length-append (omega (arith, ended-long (r .number) space, ended-long (r .token) space, ended-long (r .detail) space, ended-long s newline))
 
 -- ---- the whole
 
-pub listing-refused : (answer tree : List ℕ) → (getD answer 0 0 ≡ 0 → ⊥) → refused-line (getD answer 0 0) (getD answer 1 0) (getD answer 2 0) (getD answer 3 0) ≡ listing answer tree
-unfolding listing
-listing-refused answer tree some = rw (ne-eqb (getD answer 0 0) 0 some) refl
-
-pub listing-accepted : (answer tree : List ℕ) (n : ℕ) → getD answer 0 0 ≡ 0 → n ≡ listed (getD answer 1 0) tree → accepted-line (getD answer 1 0) (getD answer 2 0) ++ node-lines tree n ≡ listing answer tree
-unfolding listing
-listing-accepted answer tree n none e = rw (eq-eqb (getD answer 0 0) 0 none, e) refl
-
-pub listed-fits : (nodes : ℕ) (tree : List ℕ) → 3 * listed nodes tree ≤ length tree
+pub listed-fits : (nodes : ℕ) (tree : List ℕ) → listed nodes tree ≤ length tree / node-width
 unfolding listed
 listed-fits nodes tree = omega arith
+
+-- Behind the first line there is room for the lines of the nodes listed.
+pub nodes-fit : {entry text : List ℕ} {end : ℕ} (tree : List ℕ) (nodes steps n : ℕ) → listing-length (length tree) ≤ length entry → n ≡ listed nodes tree
+    → Appended entry 0 (accepted-line nodes steps) end text → length text ≡ length entry → (end + node-line-length * n ≤ length text) × (node-width * n ≤ length tree)
+nodes-fit tree nodes steps n room found first kept =
+    let fits = listed-fits nodes tree in
+    (omega (arith, first .counts, accepted-long nodes steps, found, fits), omega (arith, found, fits))
+
+-- The text is in front of the buffer, and within it.
+abbrev pub Listed : (entry added : List ℕ) (r : ℕ) (exit : List ℕ) → Type 0
+Listed entry added r exit = Appended entry 0 added r exit × (r ≤ length entry)
+
+module _ {entry exit : List ℕ} {r : ℕ} where
+  -- Here `refusal` is the error's, as the code found it.
+  pub listing-refused : (tree : List ℕ) (e : TypeNameError) (refusal : Refusal) (steps : ℕ) → listing-length (length tree) ≤ length entry → refusal ≡ refusalOf e
+      → Appended entry 0 (refused-line refusal steps) r exit → Listed entry (listing (Refused e steps) tree) r exit
+  unfolding listing
+  listing-refused tree e refusal steps room found line =
+      (appended-as (ap (λ (f : Refusal). refused-line f steps) found) line, omega (arith, line .counts, refused-long refusal steps))
+
+  -- Here `n` is how many nodes are listed.
+  pub listing-accepted : {text : List ℕ} {end : ℕ} (tree : List ℕ) (nodes steps n : ℕ) → listing-length (length tree) ≤ length entry → n ≡ listed nodes tree
+      → Appended entry 0 (accepted-line nodes steps) end text → Appended text end (node-lines tree n) r exit → Listed entry (listing (Accepted nodes steps) tree) r exit
+  unfolding listing
+  listing-accepted tree nodes steps n room found first lines =
+      let fits = listed-fits nodes tree in (
+        appended-as (ap (λ (k : ℕ). accepted-line nodes steps ++ node-lines tree k) found) (appended-then first lines),
+        omega (arith, first .counts, lines .counts, accepted-long nodes steps, nodes-long tree n, found, fits),
+      )

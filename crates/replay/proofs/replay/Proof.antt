@@ -9,7 +9,7 @@ use Rattle.replay.proofs.replay.Reads as reads
 use Rattle.replay.proofs.replay.Lts as lts
 use Rattle.replay.proofs.compare.agree.Reads as agree-reads
 use Rattle.replay.proofs.numbers.put_numbers.Reads as put-numbers-reads
-use Rattle.type_name.proofs.export.type_name_read.Reads as type-name-read-reads
+use Rattle.exports.proofs.read.type_name_read.Reads as type-name-read-reads
 
 shared-slice-read-put-numbers : tie.Need-shared-slice-read-put-numbers
 shared-slice-read-put-numbers c = search needs

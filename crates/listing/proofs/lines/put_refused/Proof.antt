@@ -17,24 +17,33 @@ slice-aggregate-put-bytes c = search needs
 put-bytes-requires : tie.Need-put-bytes-requires
 put-bytes-requires c κs = search needs
 
+cast-put-ended : tie.Need-cast-put-ended
+cast-put-ended c = search needs
+
 put-ended-requires : tie.Need-put-ended-requires
 put-ended-requires c κs = search needs
 
+cast-put-ended-2 : tie.Need-cast-put-ended-2
+cast-put-ended-2 c = search needs
+
 put-ended-requires-2 : tie.Need-put-ended-requires-2
-put-ended-requires-2 c κs = omega (arith, ended-long (c .before .before .before .before .before .before .before .before .before .before .before .args .number) space)
+put-ended-requires-2 c κs = omega (arith, ended-long (c .before .before .before .before .before .before .before .before .before .before .before .before .before .args .refusal .number) space)
+
+cast-put-ended-3 : tie.Need-cast-put-ended-3
+cast-put-ended-3 c = search needs
 
 put-ended-requires-3 : tie.Need-put-ended-requires-3
-put-ended-requires-3 c κs = omega (arith, ended-long (c .before .before .before .before .before .before .before .before .before .before .before .before .before .before .before .args .number) space, ended-long (c .before .before .before .before .before .before .before .before .before .before .before .before .before .before .before .args .token) space)
+put-ended-requires-3 c κs = omega (arith, ended-long (c .before .before .before .before .before .before .before .before .before .before .before .before .before .before .before .before .before .before .args .refusal .number) space, ended-long (c .before .before .before .before .before .before .before .before .before .before .before .before .before .before .before .before .before .before .args .refusal .token) space)
 
 put-ended-requires-4 : tie.Need-put-ended-requires-4
-put-ended-requires-4 c κs = omega (arith, ended-long (c .before .before .before .before .before .before .before .before .before .before .before .before .before .before .before .before .before .before .before .args .number) space, ended-long (c .before .before .before .before .before .before .before .before .before .before .before .before .before .before .before .before .before .before .before .args .token) space, ended-long (c .before .before .before .before .before .before .before .before .before .before .before .before .before .before .before .before .before .before .before .args .detail) space)
+put-ended-requires-4 c κs = omega (arith, ended-long (c .before .before .before .before .before .before .before .before .before .before .before .before .before .before .before .before .before .before .before .before .before .before .args .refusal .number) space, ended-long (c .before .before .before .before .before .before .before .before .before .before .before .before .before .before .before .before .before .before .before .before .before .before .args .refusal .token) space, ended-long (c .before .before .before .before .before .before .before .before .before .before .before .before .before .before .before .before .before .before .before .before .before .before .args .refusal .detail) space)
 
 same-length : tie.Need-same-length
 same-length c = search needs
 
 returns : tie.Need-returns
 unfolding refused-line
-returns c = appended-then (appended-then (appended-then (appended-then (c .before .before .before .before .before .before .before .before .before .before .before .before .before .before .before .before .before .before .put-bytes .ensures) (c .before .before .before .before .before .before .before .before .before .before .before .before .before .before .put-ended .ensures)) (c .before .before .before .before .before .before .before .before .before .before .put-ended2 .ensures)) (c .before .before .before .before .before .before .put-ended3 .ensures)) (c .before .before .put-ended4 .ensures)
+returns c = appended-then (appended-then (appended-then (appended-then (c .before .before .before .before .before .before .before .before .before .before .before .before .before .before .before .before .before .before .before .before .before .put-bytes .ensures) (c .before .before .before .before .before .before .before .before .before .before .before .before .before .before .before .before .put-ended .ensures)) (c .before .before .before .before .before .before .before .before .before .before .before .put-ended2 .ensures)) (c .before .before .before .before .before .before .put-ended3 .ensures)) (c .before .before .put-ended4 .ensures)
 
 pub put-refused-spec : {M : Type 1} → statement M
 put-refused-spec =
@@ -42,8 +51,11 @@ put-refused-spec =
     (tie.spec
     slice-aggregate-put-bytes
     put-bytes-requires
+    cast-put-ended
     put-ended-requires
+    cast-put-ended-2
     put-ended-requires-2
+    cast-put-ended-3
     put-ended-requires-3
     put-ended-requires-4
     same-length
