@@ -22,8 +22,9 @@ REFUSED = [
     ('E3', 'c', '`sizeof` of a type name of several words', 'int [sizeof(struct A)]', 'an alias', 'int [sizeof(A)]'),
 ]
 INDEX_TEXT = """
-Direction: who accepts. A row marked * is the smallest that the search met (below, "The search"): no row over its alphabets with fewer
-tokens differs by that rule; any other is the shortest of the entry's rows. Standards: those in which some row of the entry differs.
+Direction: who accepts. A row marked * is as small as the smallest that the search met (below, "The search"): no row over its alphabets with fewer
+tokens differs by that rule. Any other is the shortest of the entry's rows: with one or two of its tokens left out no row differs by that rule (`harness/iso --smaller`;
+not tried for trees, L1 and L2). Standards: those in which some row of the entry differs.
 """
 INTRODUCTION = """
 Here the reader, with structure flag 1 unless said, is held against the standards. C is ISO/IEC 9899 (C17 clause numbers; in C23 the clause of the same title), C++ is
@@ -286,15 +287,15 @@ group('C and C++: `typeof`, `decltype`, `_BitInt`, and words that the profile ch
 entry('P1', 'accept', '`typeof` in C++ and `__typeof__` everywhere.',
       '`typeof`, `typeof_unqual`, `__typeof` and `__typeof__` are read in both languages; the profile check asks for C23 only for the first two, only in C.',
       'C++ has no `typeof`; `__typeof__` stands in no standard.',
-      [cpp('typeof(1 + 2)'), c('__typeof__(1 + 2)'), cpp('Lane<__typeof__(trays + 1)>')],
+      [cpp('typeof(1)'), c('__typeof__(1)'), cpp('typeof(1 + 2)'), c('__typeof__(1 + 2)'), cpp('Lane<__typeof__(trays + 1)>')],
       'all take `__typeof__` without a word, as an extension.')
 entry('P2', 'refuse', 'A word that differs from a later keyword in case only.',
       'The profile check ignores case, also in C and C++.', 'identifiers that differ in case are different (C17 6.4.2.1; [lex.name]); `Typeof` is an ordinary name.',
-      [c('Typeof(int)', 'yes', pre='typedef int Typeof;'), c('Typeof (*)(struct Tray *)', 'yes', pre='struct Tray; typedef int Typeof;'),
+      [c('Typeof()', 'yes', pre='typedef int Typeof;'), c('Typeof(int)', 'yes', pre='typedef int Typeof;'), c('Typeof (*)(struct Tray *)', 'yes', pre='struct Tray; typedef int Typeof;'),
        cpp('DeclType(Tray)', 'yes', pre=USE + 'struct Tray; struct DeclType;')], None, 'another name, or a later standard in the head')
 entry('P3', 'refuse', '`typeof (` before C23 and `decltype (` in C++98 with an ordinary name.',
       'The profile check takes the word and a parenthesis after it for the later feature.', 'the word is an ordinary identifier there (C17 6.4.1; C++98 2.11), and the row a function type.',
-      [c('typeof (int)', 'C18-', pre='typedef int typeof;', only='C18-'), cpp('decltype (Tray)', 'C++98-', pre=USE + 'struct Tray; struct decltype {};', only='C++98-')],
+      [c('typeof ()', 'C18-', pre='typedef int typeof;', only='C18-'), c('typeof (int)', 'C18-', pre='typedef int typeof;', only='C18-'), cpp('decltype (Tray)', 'C++98-', pre=USE + 'struct Tray; struct decltype {};', only='C++98-')],
       None, 'another name')
 entry('P4', 'refuse', '`decltype( )` before `::`.',
       '`::` must follow a word or a list (as a template argument such a row passes as an expression: E9).', 'a nested-name-specifier may begin with a decltype-specifier ([expr.prim.id.qual]).',
