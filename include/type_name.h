@@ -205,7 +205,8 @@ enum type_name_delimiter {
 
 /* Reads the `file_len` bytes at `file`.
  *
- * Returns 0 if the type name is accepted, else the refusal's number, a type_name_error.
+ * Returns 0 if the type name is accepted, else the refusal's number, a type_name_error. Valid names that are refused, and
+ * what to write instead: docs/DIFFERENCES.md.
  *
  * `answer` gets four numbers:
  *     accepted   0, nodes, steps, 0

@@ -66,7 +66,8 @@ pub fn tree_for(file: &[u8]) -> Vec<u32> {
 ///
 /// # Errors
 ///
-/// If the type name is refused.
+/// If the type name is refused. Valid names that are refused, and what to write instead: the repository's
+/// `docs/DIFFERENCES.md`.
 ///
 /// # Panics
 ///
