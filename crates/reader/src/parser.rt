@@ -29,7 +29,7 @@ ghost use Prim.Native.Nat.{_+_, _*_, _≤_, _<_};
 ghost use lib.ListN.{drop, length};
 ghost use Rattle.rows.specs.Format.{most-tokens};
 ghost use Rattle.reader.specs.Nodes.{node-width, numbers-per-token, numbers-bound};
-ghost use Rattle.reader.specs.Reading.{list, reading};
+ghost use Rattle.reader.specs.Reading.{list, MAX-NESTING-DEPTH, reading};
 ghost use Rattle.reader.specs.Tables.{level-of};
 ghost use Rattle.reader.specs.declared.parser.Reading.the-variants.{Done};
 ghost use Rattle.reader.specs.ReaderSays.{GroupAnswers, ListAnswers, NodeAnswers, Parses, Ready, TokenAnswers, closed-at, closed-half, level-due, listing-of, past};
@@ -181,7 +181,7 @@ fn parse_node(
     lists: usize,
     nesting: usize,
 ) -> Reading
-    requires { ⌜ Ready (now kinds) (parser .cursor) lists nesting 64 0 (now tree) × (parser .cursor < length (now kinds)) ⌝ }
+    requires { ⌜ Ready (now kinds) (parser .cursor) lists nesting MAX-NESTING-DEPTH 0 (now tree) × (parser .cursor < length (now kinds)) ⌝ }
     ensures { λ r. ⌜ NodeAnswers cpp (now (kinds .entry)) lists nesting word parser r (now (tree .exit)) ⌝ }
 {
     if is_plain(cpp, word, kind_at(kinds, parser.cursor)) {
@@ -200,7 +200,7 @@ fn parse_inner(
     lists: usize,
     nesting: usize,
 ) -> Reading
-    requires { ⌜ Ready (now kinds) (parser .cursor) lists nesting 64 0 (now tree) × (parser .cursor < length (now kinds)) ⌝ }
+    requires { ⌜ Ready (now kinds) (parser .cursor) lists nesting MAX-NESTING-DEPTH 0 (now tree) × (parser .cursor < length (now kinds)) ⌝ }
     ensures { λ r. ⌜ NodeAnswers cpp (now (kinds .entry)) lists nesting word parser r (now (tree .exit)) ⌝ }
 {
     let at = parser.cursor;
