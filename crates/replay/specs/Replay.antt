@@ -6,15 +6,32 @@ use mathlib.Core.List.{List, [], _∷_, _++_}
 use lib.ListN.{length}
 use lib.Dec.{eqb, ltb}
 use Rattle.rows.specs.Notation.{if_then_else_}
+use Rattle.rows.specs.Format.{format}
 use Rattle.rows.specs.Records.{little-endian}
+
+-- The bytes of a number of the list.
+abbrev pub number-bytes : ℕ
+number-bytes = 4
+
+-- The numbers in front of a case.
+abbrev pub head-numbers : ℕ
+head-numbers = 9
 
 -- Where the head of a case has the count of stored numbers.
 abbrev pub stored-at : ℕ
 stored-at = 7
 
+-- One byte more than a row file may have: no case has a longer file.
+abbrev pub file-length : ℕ
+file-length = format .«file_limit» + 1
+
+-- No list has so many cases.
+abbrev pub most-cases : ℕ
+most-cases = 1000000
+
 -- Number i of those that `count` stored numbers and the one behind them stand for.
 unfoldable pub number-at : (stored : List ℕ) (count behind i : ℕ) → ℕ
-number-at stored count behind i = if ltb i count then little-endian 4 stored (4 * i) else behind
+number-at stored count behind i = if ltb i count then little-endian number-bytes stored (number-bytes * i) else behind
 
 -- The first n of them.
 unfoldable pub numbers : (stored : List ℕ) (count behind n : ℕ) → List ℕ

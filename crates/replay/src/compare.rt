@@ -5,6 +5,7 @@ ghost use mathlib.Core.Path.{_≡_};
 ghost use Prim.Native.Nat.{_≤_};
 ghost use lib.ListN.{length};
 ghost use Rattle.replay.specs.Replay.{agree as agree-on, first-difference};
+ghost use Rattle.replay.specs.Report.{part-length};
 
 // The place of the first number that differs, the length if none does.
 fn first_difference(expected: &[u32], given: &[u32]) -> usize
@@ -24,7 +25,7 @@ fn first_difference(expected: &[u32], given: &[u32]) -> usize
 
 // Whether all numbers agree; if not, prints the first that does not.
 pub fn agree(case: usize, part: &[u8], expected: &[u32], given: &[u32]) -> bool
-    requires { ⌜ (length (now expected) ≡ length (now given)) × (length (now part) ≤ 8) ⌝ }
+    requires { ⌜ (length (now expected) ≡ length (now given)) × (length (now part) ≤ part-length) ⌝ }
     ensures { λ r. ⌜ r ≡ agree-on (now (expected .entry)) (now (given .entry)) ⌝ }
 {
     let at = first_difference(expected, given);

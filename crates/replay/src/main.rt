@@ -6,6 +6,7 @@ mod numbers;
 mod report;
 
 use crate::compare::agree;
+use crate::numbers::NUMBER_BYTES;
 use crate::numbers::put_numbers;
 use crate::report::print_cut_off;
 use crate::report::print_total;
@@ -14,13 +15,13 @@ use libc::STDIN_FILENO;
 ghost use mathlib.Core.Path.{_≡_};
 ghost use Prim.Native.Nat.{_*_};
 ghost use lib.ListN.{getD, length};
-ghost use Rattle.replay.specs.Replay.{stored-at};
+ghost use Rattle.replay.specs.Replay.{file-length, head-numbers, number-bytes, stored-at};
 
 // What stands at the front of a case, four bytes each: the lengths of the file and of the buffer, the number that the
 // buffer holds before, the answer, how many numbers of the final buffer follow the file, and the number behind them.
 const HEAD_NUMBERS: usize = 9;
 
-const HEAD_LENGTH: usize = 36;
+const HEAD_LENGTH: usize = NUMBER_BYTES * HEAD_NUMBERS;
 
 const AT_FILE: usize = 0;
 
@@ -30,18 +31,22 @@ const AT_FILL: usize = 2;
 
 const AT_ANSWER: usize = 3;
 
-const AT_STORED: usize = 7;
+const AT_STORED: usize = AT_ANSWER + ANSWER_NUMBERS;
 
-const AT_BEHIND: usize = 8;
+const AT_BEHIND: usize = AT_STORED + 1;
 
-// One byte more than a row file may have.
-const FILE_LENGTH: usize = 65537;
+const ANSWER_NUMBERS: usize = 4;
+
+// The format's file limit, which `replay_rest` asks of the space for a file.
+const FILE_LIMIT: usize = 65536;
+
+// No case has a longer file.
+const FILE_LENGTH: usize = FILE_LIMIT + 1;
 
 // No case has a longer buffer.
 const BUFFER_LENGTH: usize = 8192;
 
-// Four bytes for each of its numbers.
-const STORED_LENGTH: usize = 32768;
+const STORED_LENGTH: usize = NUMBER_BYTES * BUFFER_LENGTH;
 
 // A proved loop ends; no list has so many cases.
 const MOST_CASES: usize = 1000000;
@@ -69,11 +74,11 @@ fn replay(
     tree: &mut [u32],
     expected: &mut [u32],
 ) -> bool
-    requires { ⌜ (length (now head) ≡ 9) × (length (now stored) ≡ 4 * getD (now head) stored-at 0) × (length (now tree) ≡ length (now expected)) ⌝ }
+    requires { ⌜ (length (now head) ≡ head-numbers) × (length (now stored) ≡ number-bytes * getD (now head) stored-at 0) × (length (now tree) ≡ length (now expected)) ⌝ }
 {
     put_numbers(stored, head[AT_STORED] as usize, head[AT_BEHIND], expected);
     put_numbers(stored, 0, head[AT_FILL], tree);
-    let mut answer = [0u32; 4];
+    let mut answer = [0u32; ANSWER_NUMBERS];
     let returned = [type_name_read(file, tree, &mut answer)];
     if !agree(
         case,
@@ -98,8 +103,8 @@ fn replay_rest(
     tree: &mut [u32],
     expected: &mut [u32],
 ) -> Outcome
-    requires { ⌜ length (now head) ≡ 9 ⌝ }
-    requires { ⌜ (length (now stored) ≡ 4 * length (now expected)) × (length (now tree) ≡ length (now expected)) ⌝ }
+    requires { ⌜ (length (now head) ≡ head-numbers) × (length (now file) ≡ file-length) ⌝ }
+    requires { ⌜ (length (now stored) ≡ number-bytes * length (now expected)) × (length (now tree) ≡ length (now expected)) ⌝ }
 {
     let file_length = head[AT_FILE] as usize;
     let buffer_length = head[AT_BUFFER] as usize;
@@ -113,7 +118,7 @@ fn replay_rest(
     if expected.len() < stored_numbers {
         return Outcome::CutOff;
     }
-    let stored_length = 4 * stored_numbers;
+    let stored_length = NUMBER_BYTES * stored_numbers;
     if !read_whole(&mut file[..file_length]) {
         return Outcome::CutOff;
     }

@@ -3,6 +3,7 @@ use Prim.Native.Nat.{_≤_, _-_}
 use native.Mathlib.Omega.{arith}
 use mathlib.Core.Logic.{⊎-elim}
 use borrow.Author.Needs.{needs}
+use Rattle.replay.specs.Replay.{most-cases}
 use Rattle.replay.proofs.main.Statement.{statement}
 use Rattle.replay.proofs.main.Tie as tie
 use Rattle.replay.proofs.main.Reads as reads
@@ -12,10 +13,10 @@ use Rattle.replay.proofs.report.print_cut_off.Reads as print-cut-off-re
 use Rattle.replay.proofs.report.print_total.Reads as print-total-reads
 
 abbrev Inv-loop : tie.InvT-loop
-Inv-loop replayed₀ differing₀ replayed differing = (replayed ≤ 1000000) × (differing ≤ replayed)
+Inv-loop replayed₀ differing₀ replayed differing = (replayed ≤ most-cases) × (differing ≤ replayed)
 
 abbrev μ-loop : tie.MeasureT-loop
-μ-loop replayed₀ differing₀ replayed differing = 1000000 - replayed
+μ-loop replayed₀ differing₀ replayed differing = most-cases - replayed
 
 loop-holds : tie.Need-loop-holds Inv-loop μ-loop
 loop-holds c = omega arith

@@ -13,11 +13,11 @@ use lib.Dec.{eqb}
 use borrow.Author.Tests.{eqb-true, eq-eqb, ne-eqb, lt-ltb, le-ltb}
 use Rattle.rows.specs.Notation.{if_then_else_}
 use Rattle.rows.specs.Records.{little-endian}
-use Rattle.replay.specs.Replay.{number-at, numbers, first-difference, agree}
+use Rattle.replay.specs.Replay.{number-bytes, number-at, numbers, first-difference, agree}
 
 -- ---- filling
 
-pub number-stored : (stored : List ℕ) (count behind i n : ℕ) → i < count → n ≡ little-endian 4 stored (4 * i) → n ≡ number-at stored count behind i
+pub number-stored : (stored : List ℕ) (count behind i n : ℕ) → i < count → n ≡ little-endian number-bytes stored (number-bytes * i) → n ≡ number-at stored count behind i
 unfolding number-at
 number-stored stored count behind i n less e = rw (lt-ltb i count less) e
 

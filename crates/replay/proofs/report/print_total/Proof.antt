@@ -5,6 +5,7 @@ use lib.ListN.{length, length-replicate}
 use lib.Seq.{length-take-le}
 use native.Mathlib.Omega.{arith}
 use borrow.Author.Needs.{needs}
+use Rattle.replay.specs.Report.{line-length}
 use borrow.Author.Needs.{needs}
 use Rattle.replay.proofs.report.print_total.Statement.{statement}
 use Rattle.replay.proofs.report.print_total.Tie as tie
@@ -25,7 +26,7 @@ array-share-prefix-text c = search needs
 slice-aggregate-write-all : tie.Need-slice-aggregate-write-all
 slice-aggregate-write-all c = let end = c .before .before .put-total .result in
     let line = c .before .before .put-total .last .0 in
-    let within : end ≤ length line = omega (arith, c .before .before .put-total .ensures .1, c .before .before .put-total .kept .0 ∙ length-replicate {A = ℕ} 128 0) in
+    let within : end ≤ length line = omega (arith, c .before .before .put-total .ensures .1, c .before .before .put-total .kept .0 ∙ length-replicate {A = ℕ} line-length 0) in
     sym (length-take-le end line within)
 
 write-all-requires : tie.Need-write-all-requires
