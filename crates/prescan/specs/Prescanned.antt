@@ -11,5 +11,5 @@ Same Passed d = (s : Scan) × (d ≡ passed s)
 Same (Refused e) d = d ≡ refused e
 
 -- The answer is the definition's.
-pub record Says (r : Prescanned) (d : Scanned) : Type 0 where
+pub record PrescanSays (r : Prescanned) (d : Scanned) : Type 0 where
   pub same : Same r d

@@ -21,7 +21,7 @@ ghost use Prim.Native.Nat.{_-_, _<_};
 ghost use lib.ListN.{getD, length};
 ghost use Rattle.rows.specs.Kinds.{NoToken};
 ghost use Rattle.prescan.specs.Prescan.{row-end, valid-end, valid-start};
-ghost use Rattle.prescan.specs.Prescanned.{Says};
+ghost use Rattle.prescan.specs.Prescanned.{PrescanSays};
 ghost use Rattle.prescan.specs.ScanState.{Sound, openers, scan-of};
 
 pub enum Prescanned {
@@ -62,7 +62,7 @@ fn kind_before_last(kinds: &[u8]) -> u8
 // An open bracket, an open angle, no identifier or a bad boundary, in this order; or the row passes.
 pub fn check_row_end(language: u8, kinds: &[u8], stack: &[u32], s: ScanState) -> Prescanned
     requires { ⌜ Sound (now kinds) (now stack) s (length (now kinds)) × (0 < length (now kinds)) ⌝ }
-    ensures { λ r. ⌜ Says r (row-end language (now (kinds .entry)) (openers (now (kinds .entry)) (now (stack .entry)) (s .depth)) (scan-of (openers (now (kinds .entry)) (now (stack .entry)) (s .depth)) s)) ⌝ }
+    ensures { λ r. ⌜ PrescanSays r (row-end language (now (kinds .entry)) (openers (now (kinds .entry)) (now (stack .entry)) (s .depth)) (scan-of (openers (now (kinds .entry)) (now (stack .entry)) (s .depth)) s)) ⌝ }
 {
     let depth = s.depth;
     if 0 < depth {

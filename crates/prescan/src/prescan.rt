@@ -11,12 +11,12 @@ use rows::kinds::NO_TOKEN_KIND;
 ghost use Prim.Native.Nat.{_<_, _≤_, _^_};
 ghost use lib.ListN.{length};
 ghost use Rattle.prescan.specs.Prescan.{prescan};
-ghost use Rattle.prescan.specs.Prescanned.{Says};
+ghost use Rattle.prescan.specs.Prescanned.{PrescanSays};
 
 // Refusals 10 to 18. `stack` is lent for the openers' token numbers; what it holds in the end is free.
 pub fn prescan_row(language: u8, kinds: &[u8], stack: &mut [u32]) -> Prescanned
     requires { ⌜ (length (now kinds) ≤ length (now stack)) × (length (now kinds) < 2 ^ 32) ⌝ }
-    ensures { λ r. ⌜ Says r (prescan language (now (kinds .entry))) ⌝ }
+    ensures { λ r. ⌜ PrescanSays r (prescan language (now (kinds .entry))) ⌝ }
 {
     if kinds.len() == 0 {
         return Prescanned::Refused(TypeNameError::Empty);

@@ -24,9 +24,9 @@ settled left (got x at half m) = done x at half (left - m)
 settled left (bad e m) = denied e (left - m)
 
 -- "25 step count would pass the allowance, and only then".
-unfoldable pub limited : (left : ℕ) → Got → Limited
+unfoldable pub reading-within : (left : ℕ) → Got → Limited
 unfolding steps settled
-limited left g = within left (steps g) (settled left g) spent
+reading-within left g = within left (steps g) (settled left g) spent
 
 -- A node before what came of the rest, as `before` has it.
 unfoldable pub behind : NodeKind → ℕ → Nodes → Limited → Limited

@@ -9,7 +9,7 @@ use Rattle.rows.specs.Kinds.{Identifier, Integer, LeftParen, RightParen, LeftBr
 use Rattle.rows.specs.Refusals.{refusalOf}
 use Rattle.reader.specs.Nodes.{Nodes, none, node, T-node, G-node, B-node, L-node, A-node, count, records}
 use Rattle.reader.specs.Reading.{Got, got, bad, Fault, refusal, no-list, reading, kindAt}
-use Rattle.reader.specs.Written.{Token, sign, written, halved, angles, without-angles}
+use Rattle.reader.specs.Written.{Token, sign, written, halved, closing-angles, without-closing-angles}
 use Rattle.reader.specs.Standing.{depth}
 
 -- The refusal's number; 0 where the try of a list fails.
@@ -124,10 +124,10 @@ moved : map (λ (t : Token). t .kind) out ≡ Identifier ∷ Less ∷ LeftParen 
 unfolding out tokens
 moved = refl
 
-as-often : angles (halved tokens) ≡ angles (halved out)
-unfolding out tokens halved angles
+as-often : closing-angles (halved tokens) ≡ closing-angles (halved out)
+unfolding out tokens halved closing-angles
 as-often = refl
 
-else-same : without-angles (halved tokens) ≡ without-angles (halved out)
-unfolding out tokens halved without-angles
+else-same : without-closing-angles (halved tokens) ≡ without-closing-angles (halved out)
+unfolding out tokens halved without-closing-angles
 else-same = refl

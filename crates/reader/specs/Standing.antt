@@ -32,10 +32,10 @@ tokens-of k (node k′ i b x) =
     if eqb (number k) (number k′) then i ∷ rest else rest
 
 -- The numbers of a row's tokens of one kind, counted from `at`.
-unfoldable pub numbers-of : (kind at : ℕ) → (kinds : List ℕ) → List ℕ
-numbers-of k at [] = []
-numbers-of k at (k′ ∷ ks) =
-    let rest = numbers-of k (suc at) ks in
+unfoldable pub tokens-of-kind : (kind at : ℕ) → (kinds : List ℕ) → List ℕ
+tokens-of-kind k at [] = []
+tokens-of-kind k at (k′ ∷ ks) =
+    let rest = tokens-of-kind k (suc at) ks in
     if eqb k k′ then at ∷ rest else rest
 
 -- ---- of node number n in a list of node records

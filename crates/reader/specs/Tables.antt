@@ -12,7 +12,7 @@ use Rattle.rows.specs.declared.answer.Open.{Open}
 use Rattle.rows.specs.declared.answer.Open.the-variants.{Nothing, Opened}
 use Rattle.rows.specs.declared.answer.TypeNameError.the-variants.{UnterminatedGroup, MismatchedClosingDelimiter}
 use Rattle.reader.specs.Nodes.{NodeKind, G-node, B-node}
-use Rattle.reader.specs.Reading.{Level, top, round, square, refusal, Next, ends, stops, token, group, angle, starts, next}
+use Rattle.reader.specs.Reading.{Region, top, round, square, refusal, Next, ends, stops, token, group, angle, starts, next}
 use Rattle.reader.specs.declared.tables.Start.{Start}
 use Rattle.reader.specs.declared.tables.Start.the-variants as Start
 use Rattle.reader.specs.declared.tables.GroupStep.{GroupStep}
@@ -23,40 +23,40 @@ abbrev pub node-of : Delimiter → NodeKind
 node-of Parenthesis = G-node
 node-of Bracket = B-node
 
--- The level between the brackets that are open, if any are.
-abbrev pub level-of : Open → Level
-level-of Nothing = top
-level-of (Opened Parenthesis) = round
-level-of (Opened Bracket) = square
+-- The region between the brackets that are open, if any are.
+abbrev pub region-of : Open → Region
+region-of Nothing = top
+region-of (Opened Parenthesis) = round
+region-of (Opened Bracket) = square
 
--- `next` at round and square, where `close` closes the level and `other` closes the other one.
-unfoldable pub in-group : (cpp : Bool) (close other : ℕ) (word : Bool) (k at : ℕ) → Next
-in-group cpp close other word k at =
+-- `next` at round and square, where `close` closes the region and `other` closes the other one.
+unfoldable pub in-group : (cpp : Bool) (close other : ℕ) (after-identifier : Bool) (k at : ℕ) → Next
+in-group cpp close other after-identifier k at =
     if eqb k NoToken then stops (refusal UnterminatedGroup)
     else if eqb k close then ends (suc at)
     else if eqb k other then stops (refusal MismatchedClosingDelimiter)
-    else starts cpp word k
+    else starts cpp after-identifier k
 
 -- How a node at a token of kind k begins.
 unfoldable pub started : (k : ℕ) → Start → Next
-started k (Start.Group d) = group (node-of d) (level-of (Opened d))
+started k (Start.Group d) = group (node-of d) (region-of (Opened d))
 started k Start.Angle = angle
 started k Start.Token = token (eqb k Identifier)
 
 -- Where r is true, a token of kind k is a node by itself.
-pub record Plain (cpp word : Bool) (k : ℕ) (r : Bool) : Type 0 where
-  pub plain : r ≡ true → started k Start.Token ≡ starts cpp word k
+pub record Plain (cpp after-identifier : Bool) (k : ℕ) (r : Bool) : Type 0 where
+  pub plain : r ≡ true → started k Start.Token ≡ starts cpp after-identifier k
 
 -- What is to be done at a token of the row or of a group.
-unfoldable pub planned : (cpp word : Bool) (k : ℕ) → GroupStep → Next
-planned cpp word k (GroupStep.Ends at) = ends at
-planned cpp word k (GroupStep.Stops e) = stops (refusal e)
-planned cpp word k GroupStep.Node = starts cpp word k
+unfoldable pub planned : (cpp after-identifier : Bool) (k : ℕ) → GroupStep → Next
+planned cpp after-identifier k (GroupStep.Ends at) = ends at
+planned cpp after-identifier k (GroupStep.Stops e) = stops (refusal e)
+planned cpp after-identifier k GroupStep.Node = starts cpp after-identifier k
 
 -- What is to be done is the table's, whatever the language, the left neighbour, the lists open and the half of a `>>`.
-pub record Plans (step : GroupStep) (l : Level) (k at : ℕ) : Type 0 where
-  pub plans : (cpp word half : Bool) (lists : ℕ) → planned cpp word k step ≡ next cpp l lists word k at half
+pub record Plans (step : GroupStep) (l : Region) (k at : ℕ) : Type 0 where
+  pub plans : (cpp after-identifier half : Bool) (lists : ℕ) → planned cpp after-identifier k step ≡ next cpp l lists after-identifier k at half
 
--- The same between brackets, of which `close` closes this level.
+-- The same between brackets, of which `close` closes this region.
 pub record PlansGroup (step : GroupStep) (close other k at : ℕ) : Type 0 where
-  pub plans : (cpp word : Bool) → planned cpp word k step ≡ in-group cpp close other word k at
+  pub plans : (cpp after-identifier : Bool) → planned cpp after-identifier k step ≡ in-group cpp close other after-identifier k at

@@ -40,15 +40,15 @@ halved (t ∷ ts) =
     if eqb (t .kind) ShiftRight then sign Greater ∷ sign Greater ∷ rest else t ∷ rest
 
 -- How often `>` stands in a list of tokens.
-unfoldable pub angles : List Token → ℕ
-angles [] = 0
-angles (t ∷ ts) =
-    let rest = angles ts in
+unfoldable pub closing-angles : List Token → ℕ
+closing-angles [] = 0
+closing-angles (t ∷ ts) =
+    let rest = closing-angles ts in
     if eqb (t .kind) Greater then suc rest else rest
 
 -- The list "once every `>` is left out".
-unfoldable pub without-angles : List Token → List Token
-without-angles [] = []
-without-angles (t ∷ ts) =
-    let rest = without-angles ts in
+unfoldable pub without-closing-angles : List Token → List Token
+without-closing-angles [] = []
+without-closing-angles (t ∷ ts) =
+    let rest = without-closing-angles ts in
     if eqb (t .kind) Greater then rest else t ∷ rest

@@ -30,9 +30,9 @@ ghost use lib.ListN.{drop, length};
 ghost use Rattle.rows.specs.Format.{most-tokens};
 ghost use Rattle.reader.specs.Nodes.{node-width, numbers-per-token, numbers-bound};
 ghost use Rattle.reader.specs.Reading.{list, MAX-NESTING-DEPTH, reading};
-ghost use Rattle.reader.specs.Tables.{level-of};
+ghost use Rattle.reader.specs.Tables.{region-of};
 ghost use Rattle.reader.specs.declared.parser.Reading.the-variants.{Done};
-ghost use Rattle.reader.specs.ReaderSays.{GroupAnswers, ListAnswers, NodeAnswers, Parses, Ready, TokenAnswers, closed-at, closed-half, level-due, listing-of, past};
+ghost use Rattle.reader.specs.ReaderSays.{GroupAnswers, ListAnswers, NodeAnswers, Parses, ParserReady, TokenAnswers, closed-at, closed-half, region-due, list-reading-of, past};
 
 // Where a reading stands: its token, whether half a `>>` is left, and the steps left of the allowance.
 pub struct TypeSyntaxParser {
@@ -80,7 +80,7 @@ pub enum Reading {
 }
 
 // What comes of trying a list: its arguments; no list, with the steps left; or no step is left.
-pub enum Listing {
+pub enum ListReading {
     Read(TypeSyntaxParser, usize),
     Failed(u32),
     Spent,
@@ -138,14 +138,14 @@ fn parse_group(
     lists: usize,
     nesting: usize,
 ) -> Reading
-    requires { ⌜ Ready (now kinds) (parser .cursor) lists nesting 65 0 (now tree) ⌝ }
-    ensures { λ r. ⌜ GroupAnswers (now (kinds .entry)) (parser .cursor) (level-due cpp (now (kinds .entry)) (level-of end) lists nesting parser) r (now (tree .exit)) ⌝ }
+    requires { ⌜ ParserReady (now kinds) (parser .cursor) lists nesting 65 0 (now tree) ⌝ }
+    ensures { λ r. ⌜ GroupAnswers (now (kinds .entry)) (parser .cursor) (region-due cpp (now (kinds .entry)) (region-of end) lists nesting parser) r (now (tree .exit)) ⌝ }
 {
     if nesting > TypeSyntaxParser::MAX_NESTING_DEPTH {
         return Reading::Stopped(Stop::Refused(TypeNameError::NestingLimitExceeded, parser.left));
     }
     let mut now = parser;
-    let mut word = false;
+    let mut after_identifier = false;
     let mut nodes: usize = 0;
     loop {
         let at = now.cursor;
@@ -160,34 +160,42 @@ fn parse_group(
             GroupStep::Node => {}
         }
         let start = NODE_WIDTH * nodes;
-        let read = parse_node(kinds, cpp, &mut tree[start..], now, word, lists, nesting);
+        let read = parse_node(
+            kinds,
+            cpp,
+            &mut tree[start..],
+            now,
+            after_identifier,
+            lists,
+            nesting,
+        );
         let Reading::Done(next, more) = read else {
             return read;
         };
         now = next;
         nodes = nodes + more;
-        word = kind == IDENTIFIER;
+        after_identifier = kind == IDENTIFIER;
     }
 }
 
-// The node at the cursor. `word`: its left neighbour node is an identifier token.
+// The node at the cursor. `after_identifier`: its left neighbour node is an identifier token.
 // It is short, so that the compiler puts it into the loops and a token by itself needs no call.
 fn parse_node(
     kinds: &[u8],
     cpp: bool,
     tree: &mut [u32],
     parser: TypeSyntaxParser,
-    word: bool,
+    after_identifier: bool,
     lists: usize,
     nesting: usize,
 ) -> Reading
-    requires { ⌜ Ready (now kinds) (parser .cursor) lists nesting MAX-NESTING-DEPTH 0 (now tree) × (parser .cursor < length (now kinds)) ⌝ }
-    ensures { λ r. ⌜ NodeAnswers cpp (now (kinds .entry)) lists nesting word parser r (now (tree .exit)) ⌝ }
+    requires { ⌜ ParserReady (now kinds) (parser .cursor) lists nesting MAX-NESTING-DEPTH 0 (now tree) × (parser .cursor < length (now kinds)) ⌝ }
+    ensures { λ r. ⌜ NodeAnswers cpp (now (kinds .entry)) lists nesting «after_identifier» parser r (now (tree .exit)) ⌝ }
 {
-    if is_plain(cpp, word, kind_at(kinds, parser.cursor)) {
+    if is_plain(cpp, after_identifier, kind_at(kinds, parser.cursor)) {
         return parse_token(tree, parser);
     }
-    parse_inner(kinds, cpp, tree, parser, word, lists, nesting)
+    parse_inner(kinds, cpp, tree, parser, after_identifier, lists, nesting)
 }
 
 // The same, of any node: a group and a list call the readers of their nodes.
@@ -196,12 +204,12 @@ fn parse_inner(
     cpp: bool,
     tree: &mut [u32],
     parser: TypeSyntaxParser,
-    word: bool,
+    after_identifier: bool,
     lists: usize,
     nesting: usize,
 ) -> Reading
-    requires { ⌜ Ready (now kinds) (parser .cursor) lists nesting MAX-NESTING-DEPTH 0 (now tree) × (parser .cursor < length (now kinds)) ⌝ }
-    ensures { λ r. ⌜ NodeAnswers cpp (now (kinds .entry)) lists nesting word parser r (now (tree .exit)) ⌝ }
+    requires { ⌜ ParserReady (now kinds) (parser .cursor) lists nesting MAX-NESTING-DEPTH 0 (now tree) × (parser .cursor < length (now kinds)) ⌝ }
+    ensures { λ r. ⌜ NodeAnswers cpp (now (kinds .entry)) lists nesting «after_identifier» parser r (now (tree .exit)) ⌝ }
 {
     let at = parser.cursor;
     let left = parser.left;
@@ -209,7 +217,7 @@ fn parse_inner(
         return Reading::Stopped(Stop::Spent);
     }
     let begun = parser.past(left - 1);
-    let start = node_start(cpp, word, kind_at(kinds, at));
+    let start = node_start(cpp, after_identifier, kind_at(kinds, at));
     match start {
         Start::Group(delimiter) => {
             let read = parse_group(
@@ -236,9 +244,15 @@ fn parse_inner(
                 nesting + 1,
             );
             match tried {
-                Listing::Read(next, below) => put_above(tree, LIST_NODE, at, next, below),
-                Listing::Failed(spared) => put_above(tree, TOKEN_NODE, at, parser.past(spared), 0),
-                Listing::Spent => Reading::Stopped(Stop::Spent),
+                ListReading::Read(next, below) => put_above(tree, LIST_NODE, at, next, below),
+                ListReading::Failed(spared) => put_above(
+                    tree,
+                    TOKEN_NODE,
+                    at,
+                    parser.past(spared),
+                    0,
+                ),
+                ListReading::Spent => Reading::Stopped(Stop::Spent),
             }
         }
         Start::Token => parse_token(tree, parser),
@@ -246,14 +260,14 @@ fn parse_inner(
 }
 
 // What comes of a list where this comes of its nodes: the list fails, unless no step was left.
-fn listing_of(read: Reading) -> Listing
-    ensures { λ r. ⌜ r ≡ listing-of read ⌝ }
+fn list_reading_of(read: Reading) -> ListReading
+    ensures { λ r. ⌜ r ≡ list-reading-of read ⌝ }
 {
     match read {
-        Reading::Done(next, nodes) => Listing::Read(next, nodes),
+        Reading::Done(next, nodes) => ListReading::Read(next, nodes),
         Reading::Stopped(stop) => match stop {
-            Stop::Refused(_, left) => Listing::Failed(left),
-            Stop::Spent => Listing::Spent,
+            Stop::Refused(_, left) => ListReading::Failed(left),
+            Stop::Spent => ListReading::Spent,
         },
     }
 }
@@ -288,12 +302,12 @@ fn parse_template_arguments(
     parser: TypeSyntaxParser,
     lists: usize,
     nesting: usize,
-) -> Listing
-    requires { ⌜ Ready (now kinds) (parser .cursor) lists nesting 65 node-width (now tree) ⌝ }
-    ensures { λ r. ⌜ ListAnswers (now (kinds .entry)) (parser .cursor) (level-due cpp (now (kinds .entry)) list lists nesting parser) r (now (tree .exit)) ⌝ }
+) -> ListReading
+    requires { ⌜ ParserReady (now kinds) (parser .cursor) lists nesting 65 node-width (now tree) ⌝ }
+    ensures { λ r. ⌜ ListAnswers (now (kinds .entry)) (parser .cursor) (region-due cpp (now (kinds .entry)) list lists nesting parser) r (now (tree .exit)) ⌝ }
 {
     if nesting > TypeSyntaxParser::MAX_NESTING_DEPTH {
-        return Listing::Failed(parser.left);
+        return ListReading::Failed(parser.left);
     }
     let mut now = parser;
     let mut nodes: usize = 0;
@@ -303,7 +317,7 @@ fn parse_template_arguments(
         if is_angle_close(lists, kind_at(kinds, first), now.pending_greater) {
             break 'arguments ListEnd::EmptyArgument;
         }
-        let mut word = false;
+        let mut after_identifier = false;
         let mut inner: usize = 0;
         'nodes: loop {
             let at = now.cursor;
@@ -315,13 +329,21 @@ fn parse_template_arguments(
                 break 'arguments ListEnd::Unterminated;
             }
             let start = head + NODE_WIDTH + NODE_WIDTH * inner;
-            let read = parse_node(kinds, cpp, &mut tree[start..], now, word, lists, nesting);
+            let read = parse_node(
+                kinds,
+                cpp,
+                &mut tree[start..],
+                now,
+                after_identifier,
+                lists,
+                nesting,
+            );
             let Reading::Done(next, more) = read else {
-                return listing_of(read);
+                return list_reading_of(read);
             };
             now = next;
             inner = inner + more;
-            word = kind == IDENTIFIER;
+            after_identifier = kind == IDENTIFIER;
         }
         if inner == 0 {
             break 'arguments ListEnd::EmptyArgument;
@@ -335,9 +357,9 @@ fn parse_template_arguments(
         now.cursor = at + 1;
     };
     match outcome {
-        ListEnd::Closed => Listing::Read(take_angle_close(kinds, now), nodes),
-        ListEnd::EmptyArgument => Listing::Failed(now.left),
-        ListEnd::Unterminated => Listing::Failed(now.left),
+        ListEnd::Closed => ListReading::Read(take_angle_close(kinds, now), nodes),
+        ListEnd::EmptyArgument => ListReading::Failed(now.left),
+        ListEnd::Unterminated => ListReading::Failed(now.left),
     }
 }
 

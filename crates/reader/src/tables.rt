@@ -20,8 +20,8 @@ ghost use Prim.Native.Nat.{_≤_};
 ghost use lib.Dec.{eqb};
 ghost use Rattle.rows.specs.Kinds.{Comma};
 ghost use Rattle.reader.specs.Nodes.{number, numbers-bound};
-ghost use Rattle.reader.specs.Reading.{closes, kindAt, starts, top};
-ghost use Rattle.reader.specs.Tables.{Plain, Plans, PlansGroup, level-of, node-of, started};
+ghost use Rattle.reader.specs.Reading.{is-angle-close, kindAt, starts, top};
+ghost use Rattle.reader.specs.Tables.{Plain, Plans, PlansGroup, region-of, node-of, started};
 
 // How a node begins.
 pub enum Start {
@@ -49,7 +49,7 @@ pub fn kind_at(kinds: &[u8], at: usize) -> u8
 
 // A list can end here.
 pub fn is_angle_close(lists: usize, kind: u8, half: bool) -> bool
-    ensures { λ r. ⌜ r ≡ closes lists kind half ⌝ }
+    ensures { λ r. ⌜ r ≡ is-angle-close lists kind half ⌝ }
 {
     if half {
         return true;
@@ -65,7 +65,7 @@ pub fn is_angle_close(lists: usize, kind: u8, half: bool) -> bool
 
 // An argument ends here.
 pub fn argument_ends(lists: usize, kind: u8, half: bool) -> bool
-    ensures { λ r. ⌜ r ≡ closes lists kind half || eqb kind Comma ⌝ }
+    ensures { λ r. ⌜ r ≡ is-angle-close lists kind half || eqb kind Comma ⌝ }
 {
     if kind == COMMA {
         return true;
@@ -118,7 +118,7 @@ fn bracket_step(close: u8, other: u8, kind: u8, at: usize) -> GroupStep
 // What is to be done at a token of the row, or of the group that is open.
 pub fn group_step(end: Open, kind: u8, at: usize) -> GroupStep
     requires { ⌜ at ≤ numbers-bound ⌝ }
-    ensures { λ r. ⌜ Plans r (level-of end) kind at ⌝ }
+    ensures { λ r. ⌜ Plans r (region-of end) kind at ⌝ }
 {
     let Open::Opened(delimiter) = end else {
         return row_step(kind, at);
@@ -129,9 +129,9 @@ pub fn group_step(end: Open, kind: u8, at: usize) -> GroupStep
     }
 }
 
-// How the node at a token of this kind begins. `word`: its left neighbour is an identifier.
-pub fn node_start(cpp: bool, word: bool, kind: u8) -> Start
-    ensures { λ r. ⌜ started kind r ≡ starts cpp word kind ⌝ }
+// How the node at a token of this kind begins. `after_identifier`: its left neighbour is an identifier.
+pub fn node_start(cpp: bool, after_identifier: bool, kind: u8) -> Start
+    ensures { λ r. ⌜ started kind r ≡ starts cpp «after_identifier» kind ⌝ }
 {
     if kind == LEFT_PAREN {
         return Start::Group(Delimiter::Parenthesis);
@@ -141,7 +141,7 @@ pub fn node_start(cpp: bool, word: bool, kind: u8) -> Start
     }
     if kind == LESS {
         if cpp {
-            if word {
+            if after_identifier {
                 return Start::Angle;
             }
         }
@@ -150,10 +150,10 @@ pub fn node_start(cpp: bool, word: bool, kind: u8) -> Start
 }
 
 // A token of this kind is a node by itself.
-pub fn is_plain(cpp: bool, word: bool, kind: u8) -> bool
-    ensures { λ r. ⌜ Plain cpp word kind r ⌝ }
+pub fn is_plain(cpp: bool, after_identifier: bool, kind: u8) -> bool
+    ensures { λ r. ⌜ Plain cpp «after_identifier» kind r ⌝ }
 {
-    let start = node_start(cpp, word, kind);
+    let start = node_start(cpp, after_identifier, kind);
     if let Start::Token = start {
         return true;
     }

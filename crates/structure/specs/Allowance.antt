@@ -8,6 +8,6 @@ use Rattle.structure.specs.declared.moves.Verdict.{Verdict}
 use Rattle.structure.specs.declared.moves.Verdict.the-variants.{Holds, Fails, Spent}
 
 -- What comes of a check when so many steps are left: "25 step count would pass the allowance, and only then".
-unfoldable pub limited : (left : ℕ) → Said → Verdict
-limited left (holds m) = within left m (Holds (left - m)) Spent
-limited left (fails m) = within left m (Fails (left - m)) Spent
+unfoldable pub verdict-within : (left : ℕ) → Said → Verdict
+verdict-within left (holds m) = within left m (Holds (left - m)) Spent
+verdict-within left (fails m) = within left m (Fails (left - m)) Spent

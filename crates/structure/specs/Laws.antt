@@ -4,7 +4,7 @@ pub mod Tables
 pub mod Waits
 pub mod Heads
 pub mod Walks
-pub mod Runs
+pub mod Loops
 pub mod Every
 pub mod Checks
 pub mod Inside

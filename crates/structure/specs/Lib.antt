@@ -5,6 +5,6 @@ pub mod FortranTypes
 pub mod Structure
 pub mod Represented
 pub mod Allowance
-pub mod Says
+pub mod VerdictSays
 pub mod Laws
 pub mod Examples

@@ -11,7 +11,7 @@ use Rattle.rows.specs.Languages.{Fortran}
 use Rattle.rows.specs.Kinds.{Identifier, Integer, Colon, Star, Equal}
 use Rattle.rows.specs.Words.{no-word, exactly}
 use Rattle.reader.specs.Nodes.{Nodes, none, node, count}
-use Rattle.type_nodes.specs.Shapes.{NoNode, empty, next, arguments-of, parts-are-full, shape, node-identifier, exact-word, is-single-token, is-ellipsis}
+use Rattle.type_nodes.specs.Shapes.{NoNode, empty, next, arguments-of, elements-are-full, shape, node-identifier, exact-word, is-single-token, is-ellipsis}
 use Rattle.type_nodes.specs.Shapes.{split-on-commas}
 use Rattle.type_nodes.specs.AbstractDeclarators.{looks-like-abstract-declarator}
 use Rattle.type_nodes.specs.Moves.{Move, stop, on, inside, Test, type-name, expression, some-expression, optional-expression, type-or-expression}
@@ -61,7 +61,7 @@ module _ (lang : ℕ) (kinds words : List ℕ) where
     unfoldable pub validate-parameter-type-list : Nodes → Said
     validate-parameter-type-list x =
         either (plain (empty x))
-        (λ _. both (plain (parts-are-full (split-on-commas kinds x))) (λ _. every validate-parameter (split-on-commas kinds x)))
+        (λ _. both (plain (elements-are-full (split-on-commas kinds x))) (λ _. every validate-parameter (split-on-commas kinds x)))
 
     -- `validate_fortran_selector_value`
     unfoldable pub validate-fortran-selector-value : Nodes → Said
@@ -78,7 +78,7 @@ module _ (lang : ℕ) (kinds words : List ℕ) where
     -- `validate_fortran_selector_list`
     unfoldable pub validate-fortran-selector-list : Nodes → Said
     validate-fortran-selector-list x =
-        both (plain (not (empty x) && parts-are-full (split-on-commas kinds x))) (λ _. every validate-fortran-selector (split-on-commas kinds x))
+        both (plain (not (empty x) && elements-are-full (split-on-commas kinds x))) (λ _. every validate-fortran-selector (split-on-commas kinds x))
 
     -- What a `validate_*` function asks of the nodes b below a node.
     unfoldable pub test : Test → Nodes → Said
@@ -106,28 +106,28 @@ module _ (lang : ℕ) (kinds words : List ℕ) where
       follow (inside t st) b f = both (test t b) (λ _. f st)
 
       -- The loop itself, "in the Rust's order".
-      unfoldable pub run : Nodes → (left lw : ℕ) → S → Said
-      run none left lw st = plain (done st)
-      run (node k i b x) left lw st =
-          follow (move left lw (node k i b x) st) b (run x (shape kinds (node k i b x)) (node-identifier kinds words (node k i b x)))
+      unfoldable pub loop : Nodes → (left lw : ℕ) → S → Said
+      loop none left lw st = plain (done st)
+      loop (node k i b x) left lw st =
+          follow (move left lw (node k i b x) st) b (loop x (shape kinds (node k i b x)) (node-identifier kinds words (node k i b x)))
 
     -- `validate_c_family_type`
     unfoldable pub validate-c-family-type : Nodes → Said
     validate-c-family-type x =
-        after 1 (both (plain (validate-c-decl-specifiers lang kinds words x)) (λ _. run TypeState type-move type-end x NoNode no-word (type-state false false false)))
+        after 1 (both (plain (validate-c-decl-specifiers lang kinds words x)) (λ _. loop TypeState type-move type-end x NoNode no-word (type-state false false false)))
 
     -- `validate_expression`
     unfoldable pub validate-expression : Nodes → Said
-    validate-expression x = after 1 (run ExpressionState expression-move expression-end x NoNode no-word (expression-state true false 0))
+    validate-expression x = after 1 (loop ExpressionState expression-move expression-end x NoNode no-word (expression-state true false 0))
 
     -- `validate_abstract_declarator`
     unfoldable pub validate-abstract-declarator : Nodes → Said
-    validate-abstract-declarator x = after 1 (run DeclaratorState declarator-move declarator-end x NoNode no-word (declarator-state false false))
+    validate-abstract-declarator x = after 1 (loop DeclaratorState declarator-move declarator-end x NoNode no-word (declarator-state false false))
 
     -- `validate_fortran_type`
     unfoldable pub validate-fortran-type : Nodes → Said
     validate-fortran-type x =
-        after 1 (both (plain (validate-fortran-type-head kinds words x)) (λ _. run FortranState fortran-move fortran-end x NoNode no-word (fortran-state false false)))
+        after 1 (both (plain (validate-fortran-type-head kinds words x)) (λ _. loop FortranState fortran-move fortran-end x NoNode no-word (fortran-state false false)))
 
     -- One of the counted checks: `validate_c_family_type`, `validate_expression` or `validate_abstract_declarator`.
     unfoldable pub turn : Job → Nodes → Said

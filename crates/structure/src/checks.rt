@@ -25,14 +25,14 @@ use type_nodes::nodes::shape_at;
 use type_nodes::shapes::NO_NODE;
 use type_nodes::specifiers::exact_word;
 use type_nodes::specifiers::validate_c_decl_specifiers;
-use type_nodes::split_on_commas::part_end;
-use type_nodes::split_on_commas::parts_are_full;
+use type_nodes::split_on_commas::element_end;
+use type_nodes::split_on_commas::elements_are_full;
 ghost use Rattle.type_nodes.specs.Moves.{type-or-expression, arguments};
-ghost use Rattle.type_nodes.specs.Stands.{Ready};
+ghost use Rattle.type_nodes.specs.Stands.{WordedNodes};
 ghost use Rattle.structure.specs.Structure.{a-type, a-declarator, an-expression, checked, validate-cpp-template-argument, validate-parameter};
 ghost use Rattle.structure.specs.Structure.{validate-parameter-type-list};
 ghost use Rattle.structure.specs.Represented.{test-of};
-ghost use Rattle.structure.specs.Says.{Says, Answers, Passes};
+ghost use Rattle.structure.specs.VerdictSays.{VerdictSays, Answers, Passes};
 
 pub fn validate_c_family_type(
     language: u8,
@@ -43,8 +43,8 @@ pub fn validate_c_family_type(
     to: usize,
     allowed: usize,
 ) -> Verdict
-    requires { ⌜ Ready (now tree) (now kinds) (now words) from to ⌝ }
-    ensures { λ r. ⌜ Says (now (tree .entry)) (now (kinds .entry)) from to allowed (checked language (now (kinds .entry)) (now (words .entry)) a-type) r ⌝ }
+    requires { ⌜ WordedNodes (now tree) (now kinds) (now words) from to ⌝ }
+    ensures { λ r. ⌜ VerdictSays (now (tree .entry)) (now (kinds .entry)) from to allowed (checked language (now (kinds .entry)) (now (words .entry)) a-type) r ⌝ }
 {
     if allowed == 0 {
         return Verdict::Spent;
@@ -97,8 +97,8 @@ fn validate_abstract_declarator(
     to: usize,
     allowed: usize,
 ) -> Verdict
-    requires { ⌜ Ready (now tree) (now kinds) (now words) from to ⌝ }
-    ensures { λ r. ⌜ Says (now (tree .entry)) (now (kinds .entry)) from to allowed (checked language (now (kinds .entry)) (now (words .entry)) a-declarator) r ⌝ }
+    requires { ⌜ WordedNodes (now tree) (now kinds) (now words) from to ⌝ }
+    ensures { λ r. ⌜ VerdictSays (now (tree .entry)) (now (kinds .entry)) from to allowed (checked language (now (kinds .entry)) (now (words .entry)) a-declarator) r ⌝ }
 {
     if allowed == 0 {
         return Verdict::Spent;
@@ -165,8 +165,8 @@ pub fn validate_expression(
     to: usize,
     allowed: usize,
 ) -> Verdict
-    requires { ⌜ Ready (now tree) (now kinds) (now words) from to ⌝ }
-    ensures { λ r. ⌜ Says (now (tree .entry)) (now (kinds .entry)) from to allowed (checked language (now (kinds .entry)) (now (words .entry)) an-expression) r ⌝ }
+    requires { ⌜ WordedNodes (now tree) (now kinds) (now words) from to ⌝ }
+    ensures { λ r. ⌜ VerdictSays (now (tree .entry)) (now (kinds .entry)) from to allowed (checked language (now (kinds .entry)) (now (words .entry)) an-expression) r ⌝ }
 {
     if allowed == 0 {
         return Verdict::Spent;
@@ -212,7 +212,7 @@ fn test(
     to: usize,
     allowed: usize,
 ) -> Verdict
-    requires { ⌜ Ready (now tree) (now kinds) (now words) from to ⌝ }
+    requires { ⌜ WordedNodes (now tree) (now kinds) (now words) from to ⌝ }
     ensures { λ r. ⌜ Passes language (now (tree .entry)) (now (kinds .entry)) (now (words .entry)) from to allowed (test-of inner) r ⌝ }
 {
     match inner {
@@ -278,7 +278,7 @@ fn either(
     to: usize,
     allowed: usize,
 ) -> Verdict
-    requires { ⌜ Ready (now tree) (now kinds) (now words) from to ⌝ }
+    requires { ⌜ WordedNodes (now tree) (now kinds) (now words) from to ⌝ }
     ensures { λ r. ⌜ Passes language (now (tree .entry)) (now (kinds .entry)) (now (words .entry)) from to allowed type-or-expression r ⌝ }
 {
     let said = validate_c_family_type(language, tree, kinds, words, from, to, allowed);
@@ -297,7 +297,7 @@ fn validate_cpp_template_argument(
     to: usize,
     allowed: usize,
 ) -> Verdict
-    requires { ⌜ Ready (now tree) (now kinds) (now words) from to ⌝ }
+    requires { ⌜ WordedNodes (now tree) (now kinds) (now words) from to ⌝ }
     ensures { λ r. ⌜ Answers validate-cpp-template-argument language (now (tree .entry)) (now (kinds .entry)) (now (words .entry)) from to allowed r ⌝ }
 {
     if from == to {
@@ -316,7 +316,7 @@ fn arguments(
     to: usize,
     allowed: usize,
 ) -> Verdict
-    requires { ⌜ Ready (now tree) (now kinds) (now words) from to ⌝ }
+    requires { ⌜ WordedNodes (now tree) (now kinds) (now words) from to ⌝ }
     ensures { λ r. ⌜ Passes language (now (tree .entry)) (now (kinds .entry)) (now (words .entry)) from to allowed arguments r ⌝ }
 {
     let mut left = allowed;
@@ -342,7 +342,7 @@ fn parameter(
     to: usize,
     allowed: usize,
 ) -> Verdict
-    requires { ⌜ Ready (now tree) (now kinds) (now words) from to ⌝ }
+    requires { ⌜ WordedNodes (now tree) (now kinds) (now words) from to ⌝ }
     ensures { λ r. ⌜ Answers validate-parameter language (now (tree .entry)) (now (kinds .entry)) (now (words .entry)) from to allowed r ⌝ }
 {
     if is_ellipsis(tree, kinds, from, to) {
@@ -360,19 +360,19 @@ fn validate_parameter_type_list(
     to: usize,
     allowed: usize,
 ) -> Verdict
-    requires { ⌜ Ready (now tree) (now kinds) (now words) from to ⌝ }
+    requires { ⌜ WordedNodes (now tree) (now kinds) (now words) from to ⌝ }
     ensures { λ r. ⌜ Answers validate-parameter-type-list language (now (tree .entry)) (now (kinds .entry)) (now (words .entry)) from to allowed r ⌝ }
 {
     if from == to {
         return Verdict::Holds(allowed);
     }
-    if !parts_are_full(tree, kinds, from, to) {
+    if !elements_are_full(tree, kinds, from, to) {
         return Verdict::Fails(allowed);
     }
     let mut left = allowed;
     let mut at = from;
     loop {
-        let end = part_end(tree, kinds, at, to);
+        let end = element_end(tree, kinds, at, to);
         let said = parameter(language, tree, kinds, words, at, end, left);
         let Verdict::Holds(steps) = said else {
             return said;

@@ -20,11 +20,11 @@ use type_nodes::sets::is_derived_type_word;
 use type_nodes::sets::is_word_after_double;
 use type_nodes::shapes::PARENTHESIZED;
 ghost use mathlib.Core.Path.{_≡_};
-ghost use Rattle.type_nodes.specs.Stands.{Ready, Of};
+ghost use Rattle.type_nodes.specs.Stands.{WordedNodes, Of};
 ghost use Rattle.structure.specs.FortranTypes.{fortran-node, fortran-head, validate-fortran-type-head};
 ghost use Rattle.structure.specs.Represented.{fortran-move-of, fortran-state-of};
 ghost use Rattle.structure.specs.Structure.{validate-fortran-type};
-ghost use Rattle.structure.specs.Says.{Answers};
+ghost use Rattle.structure.specs.VerdictSays.{Answers};
 
 // `last`: one node follows, an integer.
 pub fn fortran_node(shape: u8, last: bool, st: FortranLoop) -> FortranMove
@@ -73,7 +73,7 @@ pub fn validate_fortran_type_head(
     from: usize,
     to: usize,
 ) -> bool
-    requires { ⌜ Ready (now tree) (now kinds) (now words) from to ⌝ }
+    requires { ⌜ WordedNodes (now tree) (now kinds) (now words) from to ⌝ }
     ensures { λ r. ⌜ Of (now (tree .entry)) (now (kinds .entry)) from to (λ x. r ≡ validate-fortran-type-head (now (kinds .entry)) (now (words .entry)) x) ⌝ }
 {
     let found = node_at(tree, kinds, from, to);
@@ -100,7 +100,7 @@ pub fn validate_fortran_type(
     to: usize,
     allowed: usize,
 ) -> Verdict
-    requires { ⌜ Ready (now tree) (now kinds) (now words) from to ⌝ }
+    requires { ⌜ WordedNodes (now tree) (now kinds) (now words) from to ⌝ }
     ensures { λ r. ⌜ Answers validate-fortran-type language (now (tree .entry)) (now (kinds .entry)) (now (words .entry)) from to allowed r ⌝ }
 {
     if allowed == 0 {

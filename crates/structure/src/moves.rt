@@ -6,7 +6,7 @@ ghost use Rattle.structure.specs.Said.{plain};
 ghost use Rattle.structure.specs.Declarators.{type-state, declarator-state};
 ghost use Rattle.structure.specs.Expressions.{expression-state};
 ghost use Rattle.structure.specs.Represented.{test-of, type-move-of, declarator-move-of, Moves};
-ghost use Rattle.structure.specs.Allowance.{limited};
+ghost use Rattle.structure.specs.Allowance.{verdict-within};
 
 // `Holds` and `Fails` with the steps that are left; `Spent`: the allowance did not last.
 pub enum Verdict {
@@ -81,7 +81,7 @@ pub enum FortranMove {
 
 // A condition, tested without a step.
 pub fn plain(holds: bool, left: usize) -> Verdict
-    ensures { λ r. ⌜ r ≡ limited left (plain holds) ⌝ }
+    ensures { λ r. ⌜ r ≡ verdict-within left (plain holds) ⌝ }
 {
     if holds {
         return Verdict::Holds(left);

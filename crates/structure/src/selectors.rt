@@ -9,12 +9,12 @@ use rows::kinds::STAR;
 use type_nodes::nodes::is_single_token;
 use type_nodes::nodes::node_end;
 use type_nodes::nodes::shape_at;
-use type_nodes::split_on_commas::part_end;
-use type_nodes::split_on_commas::parts_are_full;
+use type_nodes::split_on_commas::element_end;
+use type_nodes::split_on_commas::elements_are_full;
 ghost use mathlib.Core.Path.{_≡_};
-ghost use Rattle.type_nodes.specs.Stands.{Ready};
+ghost use Rattle.type_nodes.specs.Stands.{WordedNodes};
 ghost use Rattle.structure.specs.Structure.{validate-fortran-selector-value, validate-fortran-selector, validate-fortran-selector-list};
-ghost use Rattle.structure.specs.Says.{Answers};
+ghost use Rattle.structure.specs.VerdictSays.{Answers};
 
 fn validate_fortran_selector_value(
     language: u8,
@@ -25,7 +25,7 @@ fn validate_fortran_selector_value(
     to: usize,
     allowed: usize,
 ) -> Verdict
-    requires { ⌜ Ready (now tree) (now kinds) (now words) from to ⌝ }
+    requires { ⌜ WordedNodes (now tree) (now kinds) (now words) from to ⌝ }
     ensures { λ r. ⌜ Answers validate-fortran-selector-value language (now (tree .entry)) (now (kinds .entry)) (now (words .entry)) from to allowed r ⌝ }
 {
     let star = is_single_token(tree, kinds, STAR, from, to);
@@ -45,7 +45,7 @@ fn validate_fortran_selector(
     to: usize,
     allowed: usize,
 ) -> Verdict
-    requires { ⌜ Ready (now tree) (now kinds) (now words) from to ⌝ }
+    requires { ⌜ WordedNodes (now tree) (now kinds) (now words) from to ⌝ }
     ensures { λ r. ⌜ Answers validate-fortran-selector language (now (tree .entry)) (now (kinds .entry)) (now (words .entry)) from to allowed r ⌝ }
 {
     if shape_at(tree, kinds, from, to) != IDENTIFIER {
@@ -71,19 +71,19 @@ pub fn validate_fortran_selector_list(
     to: usize,
     allowed: usize,
 ) -> Verdict
-    requires { ⌜ Ready (now tree) (now kinds) (now words) from to ⌝ }
+    requires { ⌜ WordedNodes (now tree) (now kinds) (now words) from to ⌝ }
     ensures { λ r. ⌜ Answers validate-fortran-selector-list language (now (tree .entry)) (now (kinds .entry)) (now (words .entry)) from to allowed r ⌝ }
 {
     if from == to {
         return Verdict::Fails(allowed);
     }
-    if !parts_are_full(tree, kinds, from, to) {
+    if !elements_are_full(tree, kinds, from, to) {
         return Verdict::Fails(allowed);
     }
     let mut left = allowed;
     let mut at = from;
     loop {
-        let end = part_end(tree, kinds, at, to);
+        let end = element_end(tree, kinds, at, to);
         let said = validate_fortran_selector(language, tree, kinds, words, at, end, left);
         let Verdict::Holds(steps) = said else {
             return said;

@@ -5,9 +5,9 @@ use crate::fortran::validate_fortran_type;
 use crate::moves::Verdict;
 use rows::languages::FORTRAN;
 ghost use mathlib.Core.Path.{_≡_};
-ghost use Rattle.type_nodes.specs.Stands.{Ready};
+ghost use Rattle.type_nodes.specs.Stands.{WordedNodes};
 ghost use Rattle.structure.specs.Structure.{validate-structured-syntax};
-ghost use Rattle.structure.specs.Says.{Says};
+ghost use Rattle.structure.specs.VerdictSays.{VerdictSays};
 
 // `allowed`: the steps that are left to it.
 pub fn validate_structured_syntax(
@@ -19,8 +19,8 @@ pub fn validate_structured_syntax(
     to: usize,
     allowed: usize,
 ) -> Verdict
-    requires { ⌜ Ready (now tree) (now kinds) (now words) from to ⌝ }
-    ensures { λ r. ⌜ Says (now (tree .entry)) (now (kinds .entry)) from to allowed (validate-structured-syntax language (now (kinds .entry)) (now (words .entry))) r ⌝ }
+    requires { ⌜ WordedNodes (now tree) (now kinds) (now words) from to ⌝ }
+    ensures { λ r. ⌜ VerdictSays (now (tree .entry)) (now (kinds .entry)) from to allowed (validate-structured-syntax language (now (kinds .entry)) (now (words .entry))) r ⌝ }
 {
     if language == FORTRAN {
         return validate_fortran_type(language, tree, kinds, words, from, to, allowed);

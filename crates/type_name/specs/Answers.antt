@@ -23,7 +23,7 @@ use Rattle.structure.specs.Structure.{validate-structured-syntax}
 use Rattle.profile.specs.Profile.{missing-feature}
 use Rattle.profile.specs.declared.profile.Lack.{Lack}
 use Rattle.profile.specs.declared.profile.Lack.the-variants.{Nothing, Lacks}
-use Rattle.type_name.specs.FileRow.{HeadRow, Outcome, untouched, read, on-read, file-row}
+use Rattle.type_name.specs.FileRow.{HeadRow, Outcome, untouched, passes, on-pass, file-row}
 
 -- ---- the answer to a row, place by place
 
@@ -90,12 +90,12 @@ row-steps (accepted x m) = m
 row-steps (refused e m) = m
 
 -- "25 step count would pass the allowance, and only then"; its steps are "the allowance for 25".
-unfoldable pub limited : (allowance : ℕ) → RowAnswer → RowAnswer
-limited allowance a = within allowance (row-steps a) a (refused AllowancePassed allowance)
+unfoldable pub answer-within : (allowance : ℕ) → RowAnswer → RowAnswer
+answer-within allowance a = within allowance (row-steps a) a (refused AllowancePassed allowance)
 
 -- The "Answer record" of a row under an allowance.
 unfoldable pub answerOf : (language standard flag : ℕ) → (kinds words : List ℕ) → (allowance : ℕ) → RowAnswer
-answerOf language standard flag kinds words allowance = limited allowance (unlimited language standard flag kinds words)
+answerOf language standard flag kinds words allowance = answer-within allowance (unlimited language standard flag kinds words)
 
 -- ---- the answer to a file
 
@@ -106,13 +106,13 @@ row-answer r =
 
 -- What comes of a file with a tree buffer of `room` numbers. "Places are tested in the table's order."
 unfoldable pub outcome : (file : List ℕ) (room : ℕ) → Outcome RowAnswer
-outcome file room = on-read (file-row format file room) λ r. read (row-answer r)
+outcome file room = on-pass (file-row format file room) λ r. passes (row-answer r)
 
 -- "Accepted: node count, steps. Refused: number, token, detail, steps."
 unfoldable pub answer-in : Outcome RowAnswer → Answer
 answer-in (untouched e) = Refused e 0
-answer-in (read (accepted x m)) = Accepted (count x) m
-answer-in (read (refused e m)) = Refused e m
+answer-in (passes (accepted x m)) = Accepted (count x) m
+answer-in (passes (refused e m)) = Refused e m
 
 -- The "Answer record" of any file with a tree buffer of any length.
 unfoldable pub answer : (file : List ℕ) (room : ℕ) → Answer
@@ -127,8 +127,8 @@ filled room numbers = numbers ++ replicate (room - length numbers) 0
 -- "Refusals 1 to 6 don't touch the tree buffer; all others fill it with zeros."
 unfoldable pub buffer-in : (before : List ℕ) → Outcome RowAnswer → List ℕ
 buffer-in before (untouched e) = before
-buffer-in before (read (accepted x m)) = filled (length before) (records x)
-buffer-in before (read (refused e m)) = filled (length before) []
+buffer-in before (passes (accepted x m)) = filled (length before) (records x)
+buffer-in before (passes (refused e m)) = filled (length before) []
 
 -- What the tree buffer holds in the end: demand 1's "the buffer's contents fixed in each case".
 unfoldable pub final-buffer : (file before : List ℕ) → List ℕ

@@ -21,8 +21,8 @@ use Rattle.structure.specs.declared.moves.Verdict.{Verdict}
 use Rattle.structure.specs.declared.moves.Verdict.the-variants.{Holds, Fails, Spent}
 use Rattle.profile.specs.declared.profile.Lack.{Lack}
 use Rattle.profile.specs.declared.profile.Lack.the-variants.{Nothing, Lacks}
-use Rattle.type_name.specs.FileRow.{HeadRow, untouched, read, file-row}
-use Rattle.type_name.specs.Answers.{RowAnswer, accepted, refused, tree-checked, row-steps, limited, answer-in}
+use Rattle.type_name.specs.FileRow.{HeadRow, untouched, passes, file-row}
+use Rattle.type_name.specs.Answers.{RowAnswer, accepted, refused, tree-checked, row-steps, answer-within, answer-in}
 use Rattle.type_name.specs.declared.file_row.FileRow.{FileRow}
 use Rattle.type_name.specs.declared.file_row.FileRow.the-variants as FileRow
 
@@ -40,14 +40,14 @@ pub record Arrays (kinds words places : List ℕ) : Type 0 where
 
 module _ (file : List ℕ) (room : ℕ) (kinds words places : List ℕ) where
   -- The file has this head and a row of so many tokens, which stand in the arrays.
-  pub record RowTaken (h : Head) (count : ℕ) (kinds′ words′ places′ : List ℕ) : Type 0 where
+  pub record FileRowTaken (h : Head) (count : ℕ) (kinds′ words′ places′ : List ℕ) : Type 0 where
     pub taken : List RowToken
-    pub is : file-row format file room ≡ read (record { the-head = h; tokens = taken })
+    pub is : file-row format file room ≡ passes (record { the-head = h; tokens = taken })
     pub in-arrays : InArrays taken count kinds words places kinds′ words′ places′
 
   -- Head and row, or the definition's refusal.
   abbrev pub FileAnswered : FileRow → (kinds′ words′ places′ : List ℕ) → Type 0
-  FileAnswered (FileRow.Row h count) kinds′ words′ places′ = RowTaken h count kinds′ words′ places′
+  FileAnswered (FileRow.Row h count) kinds′ words′ places′ = FileRowTaken h count kinds′ words′ places′
   FileAnswered (FileRow.Refused e) kinds′ words′ places′ = file-row format file room ≡ untouched e
 
   -- `read_file`. What the arrays hold after a refusal is free.
@@ -114,17 +114,17 @@ InFront (refused e m) tree = Unit {0}
 
 -- The answer is the definition's, and its tree stands in front of the buffer. What the buffer holds behind the tree, and after a refusal, is free.
 pub record ReadsRow (o : RowAnswer) (r : Answer) (tree : List ℕ) : Type 0 where
-  pub answered : r ≡ answer-in (read o)
+  pub answered : r ≡ answer-in (passes o)
   pub in-front : InFront o tree
 
 module _ (h : Head) (kinds words : List ℕ) where
   -- The row's answer under the head's profile, flag and allowance, where its reading comes to `o`.
   abbrev pub row-checked : RowAnswer → RowAnswer
-  row-checked o = limited (h .allowance) (tree-checked (h .language) (h .standard) (h .flag) kinds words o)
+  row-checked o = answer-within (h .allowance) (tree-checked (h .language) (h .standard) (h .flag) kinds words o)
 
   -- `check_nodes`: of whatever tree stands there.
   pub record NodesSay (n m : ℕ) (tree : List ℕ) (r : Answer) : Type 0 where
-    pub says : (x : Nodes) → TreeIn kinds (h .allowance) x n m tree → r ≡ answer-in (read (row-checked (accepted x m)))
+    pub says : (x : Nodes) → TreeIn kinds (h .allowance) x n m tree → r ≡ answer-in (passes (row-checked (accepted x m)))
 
   -- `check_tree`: of whatever reading this is the outcome.
   pub record CheckSays (p : Parsed) (tree : List ℕ) (r : Answer) : Type 0 where
@@ -133,9 +133,9 @@ module _ (h : Head) (kinds words : List ℕ) where
 -- ---- the buffer
 
 -- An accepted answer's nodes are within the buffer.
-abbrev pub Fits : Answer → (tree : List ℕ) → Type 0
-Fits (Accepted nodes steps) tree = node-width * nodes ≤ length tree
-Fits (Refused e steps) tree = Unit {0}
+abbrev pub TreeFits : Answer → (tree : List ℕ) → Type 0
+TreeFits (Accepted nodes steps) tree = node-width * nodes ≤ length tree
+TreeFits (Refused e steps) tree = Unit {0}
 
 -- The buffer with its tree kept, and zeros behind it.
 abbrev pub settled : (tree : List ℕ) → Answer → List ℕ

@@ -12,46 +12,46 @@ use Rattle.rows.specs.declared.answer.Answer.the-variants.{Accepted, Refused}
 use Rattle.rows.specs.declared.answer.TypeNameError.the-variants.{InvalidRecord, UnclosedAngle}
 use Rattle.type_name.specs.Answers.{answer, final-buffer}
 use Rattle.type_name.specs.AnswerNumbers.{answer-numbers, answer-code}
-use Rattle.type_name.specs.Lines.{Line, ok, refuses, line-of, answer-line, file-line}
+use Rattle.type_name.specs.FirstLines.{FirstLine, ok, refuses, first-line-of, answer-first-line, file-first-line}
 use Rattle.type_name.specs.StarredRows.{word, int-file}
 
 -- `Lane<(Key<8>>2)>`, C++17, with flag 0 and with flag 1
 lane : List Token
 lane = word "Lane" ∷ sign Less ∷ sign LeftParen ∷ word "Key" ∷ sign Less ∷ sign Integer ∷ sign ShiftRight ∷ sign Integer ∷ sign RightParen ∷ sign Greater ∷ []
 
-lanes : line-of Cpp Cpp17 0 lane ∷ line-of Cpp Cpp17 1 lane ∷ [] ≡ ok 10 8 ∷ refuses 30 no-token 0 14 ∷ []
-unfolding line-of lane
+lanes : first-line-of Cpp Cpp17 0 lane ∷ first-line-of Cpp Cpp17 1 lane ∷ [] ≡ ok 10 8 ∷ refuses 30 no-token 0 14 ∷ []
+unfolding first-line-of lane
 lanes = refl
 
 -- `LONG LONG`, C89: flag 0 40 detail 1; flag 1 30, since the structure is tree-checked before the profile
 upper : List Token
 upper = word "LONG" ∷ word "LONG" ∷ []
 
-uppers : line-of C C89 0 upper ∷ line-of C C89 1 upper ∷ [] ≡ refuses 40 no-token 1 2 ∷ refuses 30 no-token 0 3 ∷ []
-unfolding line-of upper
+uppers : first-line-of C C89 0 upper ∷ first-line-of C C89 1 upper ∷ [] ≡ refuses 40 no-token 1 2 ∷ refuses 30 no-token 0 3 ∷ []
+unfolding first-line-of upper
 uppers = refl
 
 -- `int&`: C 18; Cpp98 accepted
 reference : List Token
 reference = word "int" ∷ sign Ampersand ∷ []
 
-references : line-of C C89 1 reference ∷ line-of Cpp Cpp98 1 reference ∷ [] ≡ refuses 18 no-token 0 0 ∷ ok 2 3 ∷ []
-unfolding line-of reference
+references : first-line-of C C89 1 reference ∷ first-line-of Cpp Cpp98 1 reference ∷ [] ≡ refuses 18 no-token 0 0 ∷ ok 2 3 ∷ []
+unfolding first-line-of reference
 references = refl
 
 -- `character*(*)`: 30; flag 0, 4 nodes
 assumed-length : List Token
 assumed-length = word "character" ∷ sign Star ∷ sign LeftParen ∷ sign Star ∷ sign RightParen ∷ []
 
-assumed-lengths : line-of Fortran Fortran2018 1 assumed-length ∷ line-of Fortran Fortran2018 0 assumed-length ∷ [] ≡ refuses 30 no-token 0 5 ∷ ok 4 4 ∷ []
-unfolding line-of assumed-length
+assumed-lengths : first-line-of Fortran Fortran2018 1 assumed-length ∷ first-line-of Fortran Fortran2018 0 assumed-length ∷ [] ≡ refuses 30 no-token 0 5 ∷ ok 4 4 ∷ []
+unfolding first-line-of assumed-length
 assumed-lengths = refl
 
 -- `X<([A<b]>c)>`: 22
-wrong-closer : line-of Cpp Cpp17 1
+wrong-closer : first-line-of Cpp Cpp17 1
     (word "X" ∷ sign Less ∷ sign LeftParen ∷ sign LeftBracket ∷ word "A" ∷ sign Less ∷ word "b" ∷ sign RightBracket ∷ sign Greater ∷ word "c" ∷ sign RightParen ∷ sign Greater ∷ [])
     ≡ refuses 22 no-token 0 16
-unfolding line-of
+unfolding first-line-of
 wrong-closer = refl
 
 -- ---- answers as numbers
@@ -69,30 +69,30 @@ codes = refl
 -- ---- buffers, dirty before
 
 -- Fewer than 6 numbers for one token: 6, and the buffer stays.
-short : file-line (int-file 2) 5 ≡ refuses 6 no-token 0 0
-unfolding file-line
+short : file-first-line (int-file 2) 5 ≡ refuses 6 no-token 0 0
+unfolding file-first-line
 short = refl
 
 -- A record cut off: 4, though the buffer is short too.
-cut-record : file-line (take 20 (int-file 2)) 5 ≡ refuses 4 no-token 11 0
-unfolding file-line
+cut-record : file-first-line (take 20 (int-file 2)) 5 ≡ refuses 4 no-token 11 0
+unfolding file-first-line
 cut-record = refl
 
 short-buffer : final-buffer (int-file 2) (replicate 5 7) ≡ replicate 5 7
-unfolding file-line
+unfolding file-first-line
 short-buffer = refl
 
 -- The empty row: 10, and the buffer is filled with zeros.
 empty-buffer : final-buffer (take 11 (int-file 2)) (replicate 5 7) ≡ replicate 5 0
-unfolding file-line
+unfolding file-first-line
 empty-buffer = refl
 
 -- A head cut short: 2, and the buffer stays.
 cut-buffer : final-buffer (take 10 (int-file 2)) (replicate 5 7) ≡ replicate 5 7
-unfolding file-line
+unfolding file-first-line
 cut-buffer = refl
 
 -- Refusal 25 fills the buffer with zeros.
 spent-buffer : final-buffer (int-file 1) (replicate 6 7) ≡ replicate 6 0
-unfolding file-line
+unfolding file-first-line
 spent-buffer = refl

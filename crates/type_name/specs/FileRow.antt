@@ -19,12 +19,12 @@ use Rattle.reader.specs.Nodes.{numbers-per-token}
 -- What comes of a file: "Refusals 1 to 6 don't touch the tree buffer"; or something is read, and what is answered to it is the parameter.
 pub data Outcome (A : Type 0) : Type 0 where
   untouched : TypeNameError → Outcome A
-  read : A → Outcome A
+  passes : A → Outcome A
 
 -- "Places are tested in the table's order": the next place, where the places so far let the file pass.
-unfoldable pub on-read : {A B : Type 0} → Outcome A → (A → Outcome B) → Outcome B
-on-read (untouched e) next = untouched e
-on-read (read a) next = next a
+unfoldable pub on-pass : {A B : Type 0} → Outcome A → (A → Outcome B) → Outcome B
+on-pass (untouched e) next = untouched e
+on-pass (passes a) next = next a
 
 -- A file is "one head record and then token records to its end".
 pub record HeadRow : Type 0 where
@@ -34,20 +34,20 @@ pub record HeadRow : Type 0 where
 -- The place "File": refusals 1 to 3.
 unfoldable pub head-read : FileHead → Outcome Head
 head-read (Refused e) = untouched e
-head-read (Formed h) = read h
+head-read (Formed h) = passes h
 
 -- The place "Each record in turn": refusals 5 and 4.
 unfoldable pub row-read : Row → Outcome (List RowToken)
 row-read (Records.refused e) = untouched e
-row-read (row ts) = read ts
+row-read (row ts) = passes ts
 
 -- The place "Buffer: 6 fewer than 6 numbers per token".
 unfoldable pub with-room : (room : ℕ) → Head → List RowToken → Outcome HeadRow
-with-room room h ts = if ltb room (numbers-per-token * length ts) then untouched ShortBuffer else read (record { the-head = h; tokens = ts })
+with-room room h ts = if ltb room (numbers-per-token * length ts) then untouched ShortBuffer else passes (record { the-head = h; tokens = ts })
 
 -- The head and the row of a file, with a tree buffer of `room` numbers.
 unfoldable pub file-row : Format → (file : List ℕ) (room : ℕ) → Outcome HeadRow
 file-row f file room =
-    on-read (head-read (head f file)) λ h.
-    on-read (row-read (records-from f file most-tokens head-length)) λ ts.
+    on-pass (head-read (head f file)) λ h.
+    on-pass (row-read (records-from f file most-tokens head-length)) λ ts.
     with-room room h ts

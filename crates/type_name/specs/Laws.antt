@@ -1,4 +1,4 @@
-pub mod Parts
+pub mod Fields
 pub mod FileRow
 pub mod Total
 pub mod OnlyThen

@@ -3,7 +3,7 @@ pub mod Answers
 pub mod AnswerNumbers
 pub mod EntrySays
 pub mod Promises
-pub mod Lines
+pub mod FirstLines
 pub mod StarredRows
 pub mod Laws
 pub mod Theorems

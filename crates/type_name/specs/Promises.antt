@@ -16,10 +16,10 @@ use Rattle.rows.specs.declared.head.FileHead.the-variants.{Formed}
 use Rattle.prescan.specs.Matcher.{Pair, Paired}
 use Rattle.reader.specs.Nodes.{Nodes, G-node, B-node, count, numbers-per-token, records}
 use Rattle.reader.specs.Reading.{MAX-NESTING-DEPTH}
-use Rattle.reader.specs.Written.{Token, written, halved, angles, without-angles}
-use Rattle.reader.specs.Standing.{depth, tokens-of, numbers-of, IsGroup, Below}
+use Rattle.reader.specs.Written.{Token, written, halved, closing-angles, without-closing-angles}
+use Rattle.reader.specs.Standing.{depth, tokens-of, tokens-of-kind, IsGroup, Below}
 use Rattle.reader.specs.Nodes.{token-of}
-use Rattle.type_name.specs.FileRow.{read}
+use Rattle.type_name.specs.FileRow.{passes}
 use Rattle.type_name.specs.AnswerNumbers.{answer-numbers}
 use Rattle.type_name.specs.Answers.{accepted, outcome, answer, filled, final-buffer}
 
@@ -52,7 +52,7 @@ pub record HasTree (file before : List ℕ) (a : Answer) (after : List ℕ) (ste
   pub tokens : List RowToken
   pub tree : Nodes
   pub accepted-as : AcceptedAs file a after tokens tree steps
-  pub defined : outcome file (length before) ≡ read (accepted tree steps)
+  pub defined : outcome file (length before) ≡ passes (accepted tree steps)
   pub whole : after ≡ filled (length before) (records tree)
 
 -- "Its tree is the one that demand 2's definition gives".
@@ -69,8 +69,8 @@ pub record BracketsOf (kinds : List ℕ) (x : Nodes) : Type 0 where
   pub pairs : List Pair
   pub paired : Paired kinds pairs
   -- "every `(` has exactly one G, every `[` exactly one B, no other G or B stands in the tree"
-  pub one-G-each : tokens-of G-node x ≡ numbers-of LeftParen 0 kinds
-  pub one-B-each : tokens-of B-node x ≡ numbers-of LeftBracket 0 kinds
+  pub one-G-each : tokens-of G-node x ≡ tokens-of-kind LeftParen 0 kinds
+  pub one-B-each : tokens-of B-node x ≡ tokens-of-kind LeftBracket 0 kinds
   -- every G and B has its opener's partner
   pub partner : (n : ℕ) → n < count x → IsGroup (records x) n → (p : Pair) × List·Memᴰ p pairs × (p .opener ≡ token-of (records x) n)
   -- "and below each stand exactly the nodes whose token lies between its opener and that opener's partner"
@@ -88,11 +88,11 @@ tokens-in ts = map (λ (t : RowToken). record { kind = t .kind; word = t .word }
 -- "The tree written out and the row, each `>>` in both taken as two `>`,
 pub record WrittenAs (row : List Token) (kinds : List ℕ) (x : Nodes) : Type 0 where
   -- have `>` equally often,
-  pub angles-as-often : angles (halved (written row x)) ≡ angles (halved row)
+  pub closing-angles-as-often : closing-angles (halved (written row x)) ≡ closing-angles (halved row)
   -- are the same list once every `>` is left out,
-  pub else-same : without-angles (halved (written row x)) ≡ without-angles (halved row)
+  pub else-same : without-closing-angles (halved (written row x)) ≡ without-closing-angles (halved row)
   -- and are the same list throughout if the row has no `>>`."
-  pub same-throughout : numbers-of ShiftRight 0 kinds ≡ [] → written row x ≡ row
+  pub same-throughout : tokens-of-kind ShiftRight 0 kinds ≡ [] → written row x ≡ row
 
 -- "The tree written out and the row": of the accepted tree.
 abbrev pub WrittenOut : (file : List ℕ) → Answer → (after : List ℕ) → Type 0

@@ -15,28 +15,28 @@ use Rattle.rows.specs.Words.{bytes}
 use Rattle.rows.specs.Refusals.{no-token}
 use Rattle.reader.specs.Written.{Token, sign}
 use Rattle.rows.specs.declared.answer.Answer.the-variants.{Accepted}
-use Rattle.type_name.specs.Answers.{RowAnswer, accepted, refused, row-steps, limited, unlimited, answerOf, answer, final-buffer}
-use Rattle.type_name.specs.Lines.{Line, ok, refuses, line, line-by-numbers, line-of, kinds-in, words-in, answer-line, file-line}
+use Rattle.type_name.specs.Answers.{RowAnswer, accepted, refused, row-steps, answer-within, unlimited, answerOf, answer, final-buffer}
+use Rattle.type_name.specs.FirstLines.{FirstLine, ok, refuses, first-line, first-line-by-numbers, first-line-of, kinds-in, words-in, answer-first-line, file-first-line}
 
 -- An identifier token.
 abbrev pub word : String → Token
 word text = record { kind = Identifier; word = bytes text }
 
-abbrev pub steps-of : Line → ℕ
+abbrev pub steps-of : FirstLine → ℕ
 steps-of (ok nodes m) = m
 steps-of (refuses n t d m) = m
 
 -- The row has this line under one profile and flag, for every allowance not below its steps.
-abbrev pub At : (language standard flag : ℕ) → List Token → Line → Type 0
+abbrev pub At : (language standard flag : ℕ) → List Token → FirstLine → Type 0
 At language standard flag row expected =
-    (allowance : ℕ) → steps-of expected ≤ allowance → line (answerOf language standard flag (kinds-in row) (words-in row) allowance) ≡ expected
+    (allowance : ℕ) → steps-of expected ≤ allowance → first-line (answerOf language standard flag (kinds-in row) (words-in row) allowance) ≡ expected
 
 -- The same under every standard of a language.
-abbrev pub In : (language flag : ℕ) → List Token → Line → Type 0
+abbrev pub In : (language flag : ℕ) → List Token → FirstLine → Type 0
 In language flag row expected = (standard : ℕ) → standard < declared language → At language standard flag row expected
 
 -- The same in every language: C, C++ and Fortran are 0, 1 and 2.
-abbrev pub InEach : (flag : ℕ) → List Token → Line → Type 0
+abbrev pub InEach : (flag : ℕ) → List Token → FirstLine → Type 0
 InEach flag row expected = (language : ℕ) → language ≤ Fortran → In language flag row expected
 
 -- `int`
@@ -92,7 +92,7 @@ pub record StarredRows : Type 0 where
   -- the same from the file's bytes on, with allowance 2 and, one step short, 1
   pub int-file-answer : answer (int-file 2) 6 ≡ Accepted 1 2
   pub int-file-buffer : final-buffer (int-file 2) (replicate 6 7) ≡ 0 ∷ 0 ∷ 1 ∷ 0 ∷ 0 ∷ 0 ∷ []
-  pub int-file-short : answer-line (answer (int-file 1) 6) ≡ refuses 25 no-token 0 1
+  pub int-file-short : answer-first-line (answer (int-file 1) 6) ≡ refuses 25 no-token 0 1
   -- "`long long`: C89 40 detail 1; C99 3 steps"
   pub long-long-C89 : At C C89 1 long-long (refuses 40 no-token 1 3)
   pub long-long-C99 : At C C99 1 long-long (ok 2 3)
@@ -110,7 +110,7 @@ pub record StarredRows : Type 0 where
   pub open-angle : In Cpp 1 not-closed (refuses 16 1 0 0)
   -- "`Slots<(Lanes<8)>`, C++17: 21 after 12 steps; allowance 11: 25"
   pub slots-refused : At Cpp Cpp17 1 slots (refuses 21 no-token 0 12)
-  pub slots-short : line (answerOf Cpp Cpp17 1 (kinds-in slots) (words-in slots) 11) ≡ refuses 25 no-token 0 11
+  pub slots-short : first-line (answerOf Cpp Cpp17 1 (kinds-in slots) (words-in slots) 11) ≡ refuses 25 no-token 0 11
   -- "`real*8`, Fortran77: 3 nodes, 4 steps"
   pub real-8 : At Fortran Fortran77 1 real-row (ok 3 4)
   -- "`unsigned _BitInt(8)`: C11 40 detail 3; C23 accepted"
@@ -119,96 +119,96 @@ pub record StarredRows : Type 0 where
 
 -- ---- the proof: each row is computed once, without an allowance
 
-within : (a : RowAnswer) (allowance : ℕ) → steps-of (line a) ≤ allowance → limited allowance a ≡ a
-unfolding limited row-steps line
+within : (a : RowAnswer) (allowance : ℕ) → steps-of (first-line a) ≤ allowance → answer-within allowance a ≡ a
+unfolding answer-within row-steps first-line
 within (accepted x m) allowance p = rw (le-leb m allowance p)
 within (refused e m) allowance p = rw (le-leb m allowance p)
 
-at : (language standard flag : ℕ) (row : List Token) (expected : Line) → line-of language standard flag row ≡ expected → At language standard flag row expected
-unfolding answerOf line-of line-by-numbers
+at : (language standard flag : ℕ) (row : List Token) (expected : FirstLine) → first-line-of language standard flag row ≡ expected → At language standard flag row expected
+unfolding answerOf first-line-of first-line-by-numbers
 at language standard flag row expected q allowance p =
-    ap line (within (unlimited language standard flag (kinds-in row) (words-in row)) allowance (rw q p)) ∙ q
+    ap first-line (within (unlimited language standard flag (kinds-in row) (words-in row)) allowance (rw q p)) ∙ q
 
-empty-line : (language standard : ℕ) → line-of language standard 1 [] ≡ refuses 10 no-token 0 0
-unfolding line-of
+empty-line : (language standard : ℕ) → first-line-of language standard 1 [] ≡ refuses 10 no-token 0 0
+unfolding first-line-of
 empty-line language standard = refl
 
-int-line : line-of C C89 1 int-row ≡ ok 1 2
-unfolding line-of
+int-line : first-line-of C C89 1 int-row ≡ ok 1 2
+unfolding first-line-of
 int-line = refl
 
 int-file-answer-line : answer (int-file 2) 6 ≡ Accepted 1 2
-unfolding file-line
+unfolding file-first-line
 int-file-answer-line = refl
 
 int-file-buffer-line : final-buffer (int-file 2) (replicate 6 7) ≡ 0 ∷ 0 ∷ 1 ∷ 0 ∷ 0 ∷ 0 ∷ []
-unfolding file-line
+unfolding file-first-line
 int-file-buffer-line = refl
 
-int-file-short-line : answer-line (answer (int-file 1) 6) ≡ refuses 25 no-token 0 1
-unfolding file-line
+int-file-short-line : answer-first-line (answer (int-file 1) 6) ≡ refuses 25 no-token 0 1
+unfolding file-first-line
 int-file-short-line = refl
 
-long-long-C89-line : line-of C C89 1 long-long ≡ refuses 40 no-token 1 3
-unfolding line-of
+long-long-C89-line : first-line-of C C89 1 long-long ≡ refuses 40 no-token 1 3
+unfolding first-line-of
 long-long-C89-line = refl
 
-long-long-C99-line : line-of C C99 1 long-long ≡ ok 2 3
-unfolding line-of
+long-long-C99-line : first-line-of C C99 1 long-long ≡ ok 2 3
+unfolding first-line-of
 long-long-C99-line = refl
 
-long-long-long-checked-line : line-of C C99 1 long-long-long ≡ refuses 30 no-token 0 4
-unfolding line-of
+long-long-long-checked-line : first-line-of C C99 1 long-long-long ≡ refuses 30 no-token 0 4
+unfolding first-line-of
 long-long-long-checked-line = refl
 
-long-long-long-unchecked-line : line-of C C99 0 long-long-long ≡ ok 3 3
-unfolding line-of
+long-long-long-unchecked-line : first-line-of C C99 0 long-long-long ≡ ok 3 3
+unfolding first-line-of
 long-long-long-unchecked-line = refl
 
-one-angle-too-many-line : (standard : ℕ) → line-of Cpp standard 1 closed-twice ≡ refuses 12 3 0 0
-unfolding line-of
+one-angle-too-many-line : (standard : ℕ) → first-line-of Cpp standard 1 closed-twice ≡ refuses 12 3 0 0
+unfolding first-line-of
 one-angle-too-many-line standard = refl
 
-shifted-unchecked-line : (language standard : ℕ) → language ≤ Fortran → line-of language standard 0 shifted ≡ ok 3 3
-unfolding line-of
+shifted-unchecked-line : (language standard : ℕ) → language ≤ Fortran → first-line-of language standard 0 shifted ≡ ok 3 3
+unfolding first-line-of
 shifted-unchecked-line zero standard p = refl
 shifted-unchecked-line (suc zero) standard p = refl
 shifted-unchecked-line (suc (suc zero)) standard p = refl
 shifted-unchecked-line (suc (suc (suc language))) standard p = absurd (omega arith)
 
-shifted-checked-line : (language standard : ℕ) → language ≤ Fortran → line-of language standard 1 shifted ≡ refuses 30 no-token 0 4
-unfolding line-of
+shifted-checked-line : (language standard : ℕ) → language ≤ Fortran → first-line-of language standard 1 shifted ≡ refuses 30 no-token 0 4
+unfolding first-line-of
 shifted-checked-line zero standard p = refl
 shifted-checked-line (suc zero) standard p = refl
 shifted-checked-line (suc (suc zero)) standard p = refl
 shifted-checked-line (suc (suc (suc language))) standard p = absurd (omega arith)
 
-two-lists-line : line-of Cpp Cpp11 1 nested ≡ ok 7 8
-unfolding line-of
+two-lists-line : first-line-of Cpp Cpp11 1 nested ≡ ok 7 8
+unfolding first-line-of
 two-lists-line = refl
 
-open-angle-line : (standard : ℕ) → line-of Cpp standard 1 not-closed ≡ refuses 16 1 0 0
-unfolding line-of
+open-angle-line : (standard : ℕ) → first-line-of Cpp standard 1 not-closed ≡ refuses 16 1 0 0
+unfolding first-line-of
 open-angle-line standard = refl
 
-slots-refused-line : line-of Cpp Cpp17 1 slots ≡ refuses 21 no-token 0 12
-unfolding line-of
+slots-refused-line : first-line-of Cpp Cpp17 1 slots ≡ refuses 21 no-token 0 12
+unfolding first-line-of
 slots-refused-line = refl
 
-slots-short-line : line (answerOf Cpp Cpp17 1 (kinds-in slots) (words-in slots) 11) ≡ refuses 25 no-token 0 11
-unfolding line-of answerOf limited row-steps
+slots-short-line : first-line (answerOf Cpp Cpp17 1 (kinds-in slots) (words-in slots) 11) ≡ refuses 25 no-token 0 11
+unfolding first-line-of answerOf answer-within row-steps
 slots-short-line = refl
 
-real-8-line : line-of Fortran Fortran77 1 real-row ≡ ok 3 4
-unfolding line-of
+real-8-line : first-line-of Fortran Fortran77 1 real-row ≡ ok 3 4
+unfolding first-line-of
 real-8-line = refl
 
-bit-int-C11-line : line-of C C11 1 bit-int ≡ refuses 40 no-token 3 6
-unfolding line-of
+bit-int-C11-line : first-line-of C C11 1 bit-int ≡ refuses 40 no-token 3 6
+unfolding first-line-of
 bit-int-C11-line = refl
 
-bit-int-C23-line : line-of C C23 1 bit-int ≡ ok 4 6
-unfolding line-of
+bit-int-C23-line : first-line-of C C23 1 bit-int ≡ ok 4 6
+unfolding first-line-of
 bit-int-C23-line = refl
 
 pub starred-rows : StarredRows

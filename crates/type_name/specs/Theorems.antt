@@ -19,8 +19,8 @@ use Rattle.prescan.specs.Prescan.{Scan, passed, prescan}
 use Rattle.prescan.specs.Laws.Pairs.{prescan-pairs}
 use Rattle.reader.specs.Nodes.{Nodes, G-node, B-node}
 use Rattle.reader.specs.Reading.{MAX-NESTING-DEPTH, got, reading}
-use Rattle.reader.specs.Standing.{depth, tokens-of, numbers-of}
-use Rattle.reader.specs.Written.{Token, written, halved, angles, without-angles}
+use Rattle.reader.specs.Standing.{depth, tokens-of, tokens-of-kind}
+use Rattle.reader.specs.Written.{Token, written, halved, closing-angles, without-closing-angles}
 use Rattle.reader.specs.Laws.Tokens.{KindsKnown}
 use Rattle.reader.specs.Laws.Bounds as Bounds
 use Rattle.reader.specs.Laws.Openers as Openers
@@ -85,24 +85,24 @@ module _ (kinds : List ℕ) (known : KindsKnown kinds) (cpp : Bool) {x : Nodes} 
   nesting = Bounds.nesting kinds cpp e
 
   -- "Every `(` has exactly one G, every `[` exactly one B, no other G or B stands in the tree."
-  pub one-G-each : tokens-of G-node x ≡ numbers-of LeftParen 0 kinds
+  pub one-G-each : tokens-of G-node x ≡ tokens-of-kind LeftParen 0 kinds
   one-G-each = Openers.one-G-each kinds known cpp e
 
-  pub one-B-each : tokens-of B-node x ≡ numbers-of LeftBracket 0 kinds
+  pub one-B-each : tokens-of B-node x ≡ tokens-of-kind LeftBracket 0 kinds
   one-B-each = Openers.one-B-each kinds known cpp e
 
 module _ (row : List Token) (worded : Worded row) (known : KindsKnown (kinds-in row)) (cpp : Bool) {x : Nodes} {at : ℕ} {half : Bool} {m : ℕ}
     (e : reading cpp (kinds-in row) ≡ got x at half m) where
   -- "The tree written out and the row, each `>>` in both taken as two `>`, have `>` equally often,
-  pub angles-as-often : angles (halved (written row x)) ≡ angles (halved row)
-  angles-as-often = Writing.angles-as-often row worded known cpp e
+  pub closing-angles-as-often : closing-angles (halved (written row x)) ≡ closing-angles (halved row)
+  closing-angles-as-often = Writing.closing-angles-as-often row worded known cpp e
 
   -- are the same list once every `>` is left out,
-  pub else-same : without-angles (halved (written row x)) ≡ without-angles (halved row)
+  pub else-same : without-closing-angles (halved (written row x)) ≡ without-closing-angles (halved row)
   else-same = Writing.else-same row worded known cpp e
 
   -- and are the same list throughout if the row has no `>>`."
-  pub same-throughout : numbers-of ShiftRight 0 (kinds-in row) ≡ [] → written row x ≡ row
+  pub same-throughout : tokens-of-kind ShiftRight 0 (kinds-in row) ≡ [] → written row x ≡ row
   same-throughout = Writing.same-throughout row worded known cpp e
 
 -- "The same tree, node count and steps come back under every allowance not below those steps, together with the same or any later standard."

@@ -4,7 +4,7 @@ use reader::nodes::NODE_WIDTH;
 use rows::answer::Answer;
 ghost use mathlib.Core.Path.{_≡_};
 ghost use lib.ListN.{length, replicate};
-ghost use Rattle.type_name.specs.EntrySays.{Fits, settled};
+ghost use Rattle.type_name.specs.EntrySays.{TreeFits, settled};
 
 fn clear(numbers: &mut [u32])
     ensures { λ _. ⌜ now (numbers .exit) ≡ replicate (length (now (numbers .entry))) 0 ⌝ }
@@ -16,7 +16,7 @@ fn clear(numbers: &mut [u32])
 
 // `answer` with the tree that stands in front of the buffer if it is accepted.
 pub fn settle(tree: &mut [u32], answer: Answer)
-    requires { ⌜ Fits answer (now tree) ⌝ }
+    requires { ⌜ TreeFits answer (now tree) ⌝ }
     ensures { λ _. ⌜ now (tree .exit) ≡ settled (now (tree .entry)) answer ⌝ }
 {
     match answer {

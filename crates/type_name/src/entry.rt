@@ -9,7 +9,7 @@ use rows::answer::Answer;
 use rows::head::Head;
 use rows::row::MOST_TOKENS;
 ghost use mathlib.Core.Path.{_≡_};
-ghost use Rattle.type_name.specs.FileRow.{read};
+ghost use Rattle.type_name.specs.FileRow.{passes};
 ghost use Rattle.type_name.specs.Answers.{answerOf, answer-in, buffer-in};
 ghost use Rattle.type_name.specs.EntrySays.{RowReady};
 ghost use Rattle.type_name.specs.Promises.{Answered, BracketsPaired, Buffered, Nested, Numbered, Stable, TreeDefined, WrittenOut};
@@ -17,8 +17,8 @@ ghost use Rattle.type_name.specs.Promises.{Answered, BracketsPaired, Buf
 // The answer to a row for which the tree buffer has room.
 pub fn answer_row(head: Head, kinds: &[u8], words: &[u8], tree: &mut [u32]) -> Answer
     requires { ⌜ RowReady (now kinds) (now words) (now tree) ⌝ }
-    ensures answered { λ r. ⌜ r ≡ answer-in (read (answerOf (head .language) (head .standard) (head .flag) (now (kinds .entry)) (now (words .entry)) (head .allowance))) ⌝ }
-    ensures buffered { λ _. ⌜ now (tree .exit) ≡ buffer-in (now (tree .entry)) (read (answerOf (head .language) (head .standard) (head .flag) (now (kinds .entry)) (now (words .entry)) (head .allowance))) ⌝ }
+    ensures answered { λ r. ⌜ r ≡ answer-in (passes (answerOf (head .language) (head .standard) (head .flag) (now (kinds .entry)) (now (words .entry)) (head .allowance))) ⌝ }
+    ensures buffered { λ _. ⌜ now (tree .exit) ≡ buffer-in (now (tree .entry)) (passes (answerOf (head .language) (head .standard) (head .flag) (now (kinds .entry)) (now (words .entry)) (head .allowance))) ⌝ }
 {
     let parsed = read_tree(head.language, kinds, tree, head.allowance);
     let answer = check_tree(head, kinds, words, tree, parsed);

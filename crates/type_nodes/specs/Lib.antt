@@ -4,7 +4,7 @@ pub mod AbstractDeclarators
 pub mod Moves
 pub mod Specifiers
 pub mod Stands
-pub mod CommaParts
+pub mod Elements
 pub mod RepresentedSpecifiers
 pub mod Laws
 pub mod Examples

@@ -21,19 +21,19 @@ specifier-move-of seen (M.On f) = on (specifiers-of seen f)
 specifier-move-of seen (M.Count w f) = on (specifiers-of (once-more w seen) f)
 
 -- A word that is counted has a count.
-abbrev pub Known : SpecifierMove → Type 0
-Known (M.Stop r) = Unit {0}
-Known (M.On f) = Unit {0}
-Known (M.Count w f) = w < counted-words
+abbrev pub HasCount : SpecifierMove → Type 0
+HasCount (M.Stop r) = Unit {0}
+HasCount (M.On f) = Unit {0}
+HasCount (M.Count w f) = w < counted-words
 
 -- Every word of a list has a count.
-abbrev pub Counted : (words : List ℕ) → Type 0
-Counted words = (i : ℕ) → i < length words → getD words i 0 < counted-words
+abbrev pub HaveCounts : (words : List ℕ) → Type 0
+HaveCounts words = (i : ℕ) → i < length words → getD words i 0 < counted-words
 
 -- A move of the specifiers, and what lets the code count.
 pub record SpecifierMoves (seen : List ℕ) (r : SpecifierMove) (m : Move Specifiers) : Type 0 where
   pub is : specifier-move-of seen r ≡ m
-  pub known : Known r
+  pub known : HasCount r
 
 -- A move that serves whatever was counted before.
 abbrev pub Always : SpecifierMove → (arm : (seen : List ℕ) → Move Specifiers) → Type 0

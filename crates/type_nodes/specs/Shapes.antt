@@ -57,15 +57,15 @@ unfoldable pub arguments-of : Nodes → List Nodes
 arguments-of none = []
 arguments-of (node k i b x) = b ∷ arguments-of x
 
--- One node more at the beginning of the first part: for `split_on_commas`.
+-- One node more at the beginning of the first element: for `split_on_commas`.
 unfoldable pub prepend : NodeKind → (token : ℕ) → (below : Nodes) → List Nodes → List Nodes
 prepend k i b [] = []
 prepend k i b (x ∷ xs) = node k i b x ∷ xs
 
--- No part is empty: `split_on_commas` gives `Some`.
-unfoldable pub parts-are-full : List Nodes → Bool
-parts-are-full [] = true
-parts-are-full (x ∷ xs) = not (empty x) && parts-are-full xs
+-- No element is empty: `split_on_commas` gives `Some`.
+unfoldable pub elements-are-full : List Nodes → Bool
+elements-are-full [] = true
+elements-are-full (x ∷ xs) = not (empty x) && elements-are-full xs
 
 module _ (kinds : List ℕ) where
   -- The shape of the first node: `TypeSyntax`, and of a token its `TokenKind`.
@@ -95,7 +95,7 @@ module _ (kinds : List ℕ) where
   unfoldable pub is-ellipsis : Nodes → Bool
   is-ellipsis x = eqb (shape x) Dot && eqb (shape (next x)) Dot && eqb (shape (next (next x))) Dot && empty (next (next (next x)))
 
-  -- `split_on_commas`: the parts between commas, at least one. Where the Rust gives `None`, a part is empty: see `parts-are-full`.
+  -- `split_on_commas`: the elements between commas, at least one. Where the Rust gives `None`, one is empty: see `elements-are-full`.
   unfoldable pub split-on-commas : Nodes → List Nodes
   split-on-commas none = none ∷ []
   split-on-commas (node k i b x) =

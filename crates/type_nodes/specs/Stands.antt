@@ -17,7 +17,7 @@ pub data Stands (tree kinds : List ℕ) : (from to : ℕ) → Nodes → Type 0 w
       → i < length kinds → Stands tree kinds (suc a) (suc (a + count b)) b → Stands tree kinds (suc (a + count b)) e x → Stands tree kinds a e (node k i b x)
 
 -- Some nodes stand there, inside the tree: what a function requires of a range.
-pub record Formed (tree kinds : List ℕ) (from to : ℕ) : Type 0 where
+pub record NodesStand (tree kinds : List ℕ) (from to : ℕ) : Type 0 where
   pub nodes : Nodes
   pub stands : Stands tree kinds from to nodes
   pub room : node-width * to ≤ length tree
@@ -38,8 +38,8 @@ token-of-first none = 0
 token-of-first (node k i b x) = i
 
 -- The words of the row too.
-pub record Ready (tree kinds words : List ℕ) (from to : ℕ) : Type 0 where
-  pub formed : Formed tree kinds from to
+pub record WordedNodes (tree kinds words : List ℕ) (from to : ℕ) : Type 0 where
+  pub nodes-stand : NodesStand tree kinds from to
   pub worded : length words ≡ length kinds
 
 -- What a lookup at a node number finds of the nodes that stand there.

@@ -26,7 +26,7 @@ ghost use lib.Dec.{eqb};
 ghost use Rattle.rows.specs.Notation.{if_then_else_};
 ghost use Rattle.rows.specs.Words.{long};
 ghost use Rattle.type_nodes.specs.Specifiers.{times, has, how-many, builtin-words, too-often, validate-c-bit-int-sign, validate-c-builtin-combination, counted-words};
-ghost use Rattle.type_nodes.specs.RepresentedSpecifiers.{Counted};
+ghost use Rattle.type_nodes.specs.RepresentedSpecifiers.{HaveCounts};
 
 // Builtin type words and qualifiers, and no other words, have numbers below this.
 pub const COUNTED_WORDS: usize = 29;
@@ -87,7 +87,7 @@ pub fn has(seen: &[usize; COUNTED_WORDS], word: u8) -> bool
 
 // How many of these words were seen.
 fn how_many(seen: &[usize; COUNTED_WORDS], words: &[u8]) -> usize
-    requires { ⌜ Counted (now words) ⌝ }
+    requires { ⌜ HaveCounts (now words) ⌝ }
     ensures { λ r. ⌜ r ≡ how-many (now (words .entry)) (now (seen .entry)) ⌝ }
 {
     let mut met = 0;
@@ -114,7 +114,7 @@ fn most(word: u8) -> usize
 }
 
 fn too_often(seen: &[usize; COUNTED_WORDS], words: &[u8]) -> bool
-    requires { ⌜ Counted (now words) ⌝ }
+    requires { ⌜ HaveCounts (now words) ⌝ }
     ensures { λ r. ⌜ r ≡ too-often (now (words .entry)) (now (seen .entry)) ⌝ }
 {
     let mut over = false;

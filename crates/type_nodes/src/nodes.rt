@@ -16,7 +16,7 @@ ghost use Prim.Native.Nat.{_+_, _<_, suc};
 ghost use Rattle.reader.specs.Nodes.{count};
 ghost use Rattle.type_nodes.specs.Shapes.{NoNode, shape, node-identifier, is-single-token, is-ellipsis};
 ghost use Rattle.type_nodes.specs.AbstractDeclarators.{any, looks-like-abstract-declarator};
-ghost use Rattle.type_nodes.specs.Stands.{Formed, Ready, Of, Finds, below};
+ghost use Rattle.type_nodes.specs.Stands.{NodesStand, WordedNodes, Of, Finds, below};
 
 // `next`: where the nodes after the node begin.
 pub enum Lookup {
@@ -30,7 +30,7 @@ pub enum Lookup {
 
 // The shape of the node at a place of a level.
 pub fn shape_at(tree: &[u32], kinds: &[u8], at: usize, to: usize) -> u8
-    requires { ⌜ Formed (now tree) (now kinds) at to ⌝ }
+    requires { ⌜ NodesStand (now tree) (now kinds) at to ⌝ }
     ensures { λ r. ⌜ Of (now (tree .entry)) (now (kinds .entry)) at to (λ x. r ≡ shape (now (kinds .entry)) x) ⌝ }
 {
     if at >= to {
@@ -46,14 +46,14 @@ pub fn shape_at(tree: &[u32], kinds: &[u8], at: usize, to: usize) -> u8
 
 // Where the nodes after the node at a place begin.
 pub fn node_end(tree: &[u32], kinds: &[u8], at: usize, to: usize) -> usize
-    requires { ⌜ (at < to) × Formed (now tree) (now kinds) at to ⌝ }
+    requires { ⌜ (at < to) × NodesStand (now tree) (now kinds) at to ⌝ }
     ensures { λ r. ⌜ Of (now (tree .entry)) (now (kinds .entry)) at to (λ x. r ≡ suc (at + count (below x))) ⌝ }
 {
     at + node_extent(tree, at)
 }
 
 pub fn node_at(tree: &[u32], kinds: &[u8], at: usize, to: usize) -> Lookup
-    requires { ⌜ Formed (now tree) (now kinds) at to ⌝ }
+    requires { ⌜ NodesStand (now tree) (now kinds) at to ⌝ }
     ensures { λ r. ⌜ Of (now (tree .entry)) (now (kinds .entry)) at to (λ x. Finds (now (kinds .entry)) at r x) ⌝ }
 {
     if at >= to {
@@ -67,7 +67,7 @@ pub fn node_at(tree: &[u32], kinds: &[u8], at: usize, to: usize) -> Lookup
 
 // The word number of the node at a place, if it is an identifier.
 pub fn node_identifier(tree: &[u32], kinds: &[u8], words: &[u8], at: usize, to: usize) -> u8
-    requires { ⌜ Ready (now tree) (now kinds) (now words) at to ⌝ }
+    requires { ⌜ WordedNodes (now tree) (now kinds) (now words) at to ⌝ }
     ensures { λ r. ⌜ Of (now (tree .entry)) (now (kinds .entry)) at to (λ x. r ≡ node-identifier (now (kinds .entry)) (now (words .entry)) x) ⌝ }
 {
     let found = node_at(tree, kinds, at, to);
@@ -86,7 +86,7 @@ pub fn node_identifier(tree: &[u32], kinds: &[u8], words: &[u8], at: usize, to: 
 }
 
 pub fn is_single_token(tree: &[u32], kinds: &[u8], kind: u8, from: usize, to: usize) -> bool
-    requires { ⌜ (kind < NoNode) × Formed (now tree) (now kinds) from to ⌝ }
+    requires { ⌜ (kind < NoNode) × NodesStand (now tree) (now kinds) from to ⌝ }
     ensures { λ r. ⌜ Of (now (tree .entry)) (now (kinds .entry)) from to (λ x. r ≡ is-single-token (now (kinds .entry)) kind x) ⌝ }
 {
     let found = node_at(tree, kinds, from, to);
@@ -102,7 +102,7 @@ pub fn is_single_token(tree: &[u32], kinds: &[u8], kind: u8, from: usize, to: us
 }
 
 pub fn is_ellipsis(tree: &[u32], kinds: &[u8], from: usize, to: usize) -> bool
-    requires { ⌜ Formed (now tree) (now kinds) from to ⌝ }
+    requires { ⌜ NodesStand (now tree) (now kinds) from to ⌝ }
     ensures { λ r. ⌜ Of (now (tree .entry)) (now (kinds .entry)) from to (λ x. r ≡ is-ellipsis (now (kinds .entry)) x) ⌝ }
 {
     if shape_at(tree, kinds, from, to) != DOT {
@@ -121,7 +121,7 @@ pub fn is_ellipsis(tree: &[u32], kinds: &[u8], from: usize, to: usize) -> bool
 
 // Some node of a level has a shape.
 fn any(tree: &[u32], kinds: &[u8], wanted: u8, from: usize, to: usize) -> bool
-    requires { ⌜ Formed (now tree) (now kinds) from to ⌝ }
+    requires { ⌜ NodesStand (now tree) (now kinds) from to ⌝ }
     ensures { λ r. ⌜ Of (now (tree .entry)) (now (kinds .entry)) from to (λ x. r ≡ any (now (kinds .entry)) wanted x) ⌝ }
 {
     let mut at = from;
@@ -137,7 +137,7 @@ fn any(tree: &[u32], kinds: &[u8], wanted: u8, from: usize, to: usize) -> bool
 }
 
 pub fn looks_like_abstract_declarator(tree: &[u32], kinds: &[u8], from: usize, to: usize) -> bool
-    requires { ⌜ Formed (now tree) (now kinds) from to ⌝ }
+    requires { ⌜ NodesStand (now tree) (now kinds) from to ⌝ }
     ensures { λ r. ⌜ Of (now (tree .entry)) (now (kinds .entry)) from to (λ x. r ≡ looks-like-abstract-declarator (now (kinds .entry)) x) ⌝ }
 {
     if is_declarator_start(shape_at(tree, kinds, from, to)) {

@@ -33,7 +33,7 @@ ghost use Rattle.rows.specs.Notation.{if_then_else_};
 ghost use Rattle.rows.specs.Words.{exactly, «_BitInt»};
 ghost use Rattle.type_nodes.specs.Shapes.{exact-word};
 ghost use Rattle.type_nodes.specs.Specifiers.{once-more, no-builtin-word, validate-c-bit-int-sign, specifiers-end, parenthesis-word, qualifier-word, elaborated-word, builtin-word, name-word, specifier-scope, specifier-list, specifier-node, validate-c-decl-specifiers, counted-words};
-ghost use Rattle.type_nodes.specs.Stands.{Ready, Of};
+ghost use Rattle.type_nodes.specs.Stands.{WordedNodes, Of};
 ghost use Rattle.type_nodes.specs.RepresentedSpecifiers.{specifiers-of, SpecifierMoves, Always, Goes, Serves};
 
 // What was seen besides the words that are counted.
@@ -60,7 +60,7 @@ pub enum SpecifierMove {
 
 // Which known word the node at a place is exactly.
 pub fn exact_word(tree: &[u32], kinds: &[u8], words: &[u8], at: usize, to: usize) -> u8
-    requires { ⌜ Ready (now tree) (now kinds) (now words) at to ⌝ }
+    requires { ⌜ WordedNodes (now tree) (now kinds) (now words) at to ⌝ }
     ensures { λ r. ⌜ Of (now (tree .entry)) (now (kinds .entry)) at to (λ x. r ≡ exact-word (now (kinds .entry)) (now (words .entry)) x) ⌝ }
 {
     exactly(node_identifier(tree, kinds, words, at, to))
@@ -276,7 +276,7 @@ pub fn validate_c_decl_specifiers(
     from: usize,
     to: usize,
 ) -> bool
-    requires { ⌜ Ready (now tree) (now kinds) (now words) from to ⌝ }
+    requires { ⌜ WordedNodes (now tree) (now kinds) (now words) from to ⌝ }
     ensures { λ r. ⌜ Of (now (tree .entry)) (now (kinds .entry)) from to (λ x. r ≡ validate-c-decl-specifiers language (now (kinds .entry)) (now (words .entry)) x) ⌝ }
 {
     let mut seen: [usize; COUNTED_WORDS] = [0; COUNTED_WORDS];

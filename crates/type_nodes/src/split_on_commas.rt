@@ -1,4 +1,4 @@
-// The parts between commas: `split_on_commas` as walks.
+// The elements between commas: `split_on_commas` as walks.
 
 use crate::nodes::node_end;
 use crate::nodes::shape_at;
@@ -6,14 +6,14 @@ use rows::kinds::COMMA;
 ghost use mathlib.Core.Path.{_≡_};
 ghost use Prim.Native.Nat.{_+_};
 ghost use Rattle.reader.specs.Nodes.{count};
-ghost use Rattle.type_nodes.specs.Shapes.{split-on-commas, parts-are-full};
-ghost use Rattle.type_nodes.specs.CommaParts.{first-part};
-ghost use Rattle.type_nodes.specs.Stands.{Formed, Of};
+ghost use Rattle.type_nodes.specs.Shapes.{split-on-commas, elements-are-full};
+ghost use Rattle.type_nodes.specs.Elements.{first-element};
+ghost use Rattle.type_nodes.specs.Stands.{NodesStand, Of};
 
-// Where the first part ends: at a comma, or with the level.
-pub fn part_end(tree: &[u32], kinds: &[u8], from: usize, to: usize) -> usize
-    requires { ⌜ Formed (now tree) (now kinds) from to ⌝ }
-    ensures { λ r. ⌜ Of (now (tree .entry)) (now (kinds .entry)) from to (λ x. r ≡ from + count (first-part (now (kinds .entry)) x)) ⌝ }
+// Where the first element ends: at a comma, or with the level.
+pub fn element_end(tree: &[u32], kinds: &[u8], from: usize, to: usize) -> usize
+    requires { ⌜ NodesStand (now tree) (now kinds) from to ⌝ }
+    ensures { λ r. ⌜ Of (now (tree .entry)) (now (kinds .entry)) from to (λ x. r ≡ from + count (first-element (now (kinds .entry)) x)) ⌝ }
 {
     let mut at = from;
     while at < to {
@@ -25,10 +25,10 @@ pub fn part_end(tree: &[u32], kinds: &[u8], from: usize, to: usize) -> usize
     at
 }
 
-// No part between commas is empty: `split_on_commas` gives no `None`.
-pub fn parts_are_full(tree: &[u32], kinds: &[u8], from: usize, to: usize) -> bool
-    requires { ⌜ Formed (now tree) (now kinds) from to ⌝ }
-    ensures { λ r. ⌜ Of (now (tree .entry)) (now (kinds .entry)) from to (λ x. r ≡ parts-are-full (split-on-commas (now (kinds .entry)) x)) ⌝ }
+// No element between commas is empty: `split_on_commas` gives no `None`.
+pub fn elements_are_full(tree: &[u32], kinds: &[u8], from: usize, to: usize) -> bool
+    requires { ⌜ NodesStand (now tree) (now kinds) from to ⌝ }
+    ensures { λ r. ⌜ Of (now (tree .entry)) (now (kinds .entry)) from to (λ x. r ≡ elements-are-full (split-on-commas (now (kinds .entry)) x)) ⌝ }
 {
     let mut some = false;
     let mut at = from;

@@ -12,7 +12,7 @@ use Rattle.rows.specs.declared.answer.TypeNameError.{TypeNameError}
 use Rattle.rows.specs.declared.answer.TypeNameError.the-variants.{Empty}
 use Rattle.prescan.specs.Prescan.{Scan, Scanned, passed, refused, start, take-token, scan, row-end, at-row-end, prescan}
 use Rattle.prescan.specs.ScanState.{openers, scan-of, Sound, outcome-of, StillSound, Takes}
-use Rattle.prescan.specs.Prescanned.{Same, Says}
+use Rattle.prescan.specs.Prescanned.{Same, PrescanSays}
 use Rattle.prescan.specs.declared.boundary.Prescanned.{Prescanned}
 use Rattle.prescan.specs.declared.boundary.Prescanned.the-variants.{Passed, Refused}
 use Rattle.prescan.specs.declared.scan.ScanState.{ScanState}
@@ -51,7 +51,7 @@ module _ (language : ℕ) where
     taken-on p = l .is ∙ rw (drop-cons kinds at 0 p) refl
 
     pub loop-refuses : at < length kinds → {stack′ : List ℕ} {e : TypeNameError}
-        → Takes kinds stack′ at (Step.Refused e) (take-token language (getD kinds at 0) at (passed (scan-of (openers kinds stack (s .depth)) s))) → Says (Refused e) (prescan language kinds)
+        → Takes kinds stack′ at (Step.Refused e) (take-token language (getD kinds at 0) at (passed (scan-of (openers kinds stack (s .depth)) s))) → PrescanSays (Refused e) (prescan language kinds)
     unfolding at-row-end
     loop-refuses p {e = e} t =
         let fault : scan language 0 kinds (passed start) ≡ refused e = taken-on p ∙ rw (← t .says) (scan-refused (suc at) (drop (suc at) kinds) e) in
@@ -62,7 +62,7 @@ module _ (language : ℕ) where
     loop-goes-on p t = record { some = l .some; sound = rw add-one (t .sound); is = taken-on p ∙ rw (← t .says, add-one) refl }
 
     pub loop-ends : length kinds ≤ at → (r : Prescanned)
-        → Says r (row-end language kinds (openers kinds stack (s .depth)) (scan-of (openers kinds stack (s .depth)) s)) → Says r (prescan language kinds)
+        → PrescanSays r (row-end language kinds (openers kinds stack (s .depth)) (scan-of (openers kinds stack (s .depth)) s)) → PrescanSays r (prescan language kinds)
     unfolding scan at-row-end
     loop-ends p r t =
         let end : drop at kinds ≡ [] = drop-of-length-le kinds p in

@@ -10,9 +10,9 @@ use lib.ListN.{length}
 use lib.Dec.{leb, leb·zero}
 use Rattle.rows.specs.declared.answer.TypeNameError.the-variants.{NestingLimitExceeded}
 use Rattle.reader.specs.Nodes.{NodeKind, Nodes, none, node}
-use Rattle.reader.specs.Reading.{Level, Fault, refusal, Next, ends, stops, next, kindAt, MAX-NESTING-DEPTH, down, go, turn, read}
+use Rattle.reader.specs.Reading.{Region, Fault, refusal, Next, ends, stops, next, kindAt, MAX-NESTING-DEPTH, down, go, turn, read}
 use Rattle.reader.specs.Laws.Loops.{_then_, then-assoc}
-use Rattle.reader.specs.Allowance.{Limited, done, denied, spent, limited, behind}
+use Rattle.reader.specs.Allowance.{Limited, done, denied, spent, reading-within, behind}
 use Rattle.reader.specs.Laws.Allowance.{limited-ends, limited-stops}
 use Rattle.reader.specs.Laws.Fixed.{fixed}
 
@@ -51,27 +51,27 @@ pub ahead-spent : (x : Nodes) → ahead x spent ≡ spent
 unfolding ahead
 ahead-spent x = refl
 
-module _ (cpp : Bool) (row : List ℕ) (l : Level) (lists nesting : ℕ) where
+module _ (cpp : Bool) (row : List ℕ) (l : Region) (lists nesting : ℕ) where
   -- One level down.
   pub down-deep : (left at : ℕ) (half : Bool) → MAX-NESTING-DEPTH < nesting
-      → limited left (down cpp row (read cpp row) (leb nesting MAX-NESTING-DEPTH) l lists nesting at half) ≡ denied (refusal NestingLimitExceeded) left
-  unfolding down limited
+      → reading-within left (down cpp row (read cpp row) (leb nesting MAX-NESTING-DEPTH) l lists nesting at half) ≡ denied (refusal NestingLimitExceeded) left
+  unfolding down reading-within
   down-deep left at half h = rw (lt-leb nesting MAX-NESTING-DEPTH h, leb·zero, sub-zero)
 
   pub down-read : (left at : ℕ) (half : Bool) → nesting ≤ MAX-NESTING-DEPTH
-      → limited left (down cpp row (read cpp row) (leb nesting MAX-NESTING-DEPTH) l lists nesting at half) ≡ limited left (read cpp row l lists nesting false at half)
+      → reading-within left (down cpp row (read cpp row) (leb nesting MAX-NESTING-DEPTH) l lists nesting at half) ≡ reading-within left (read cpp row l lists nesting false at half)
   unfolding down
   down-read left at half h = rw (le-leb nesting MAX-NESTING-DEPTH h)
 
   -- One turn of the level, by what is to be done.
-  module _ (word : Bool) (at : ℕ) (half : Bool) (i : at ≤ length row) (left : ℕ) where
-    pub turned : (nx : Next) → nx ≡ next cpp l lists word (kindAt row at) at half
-        → limited left (read cpp row l lists nesting word at half) ≡ limited left (go cpp row (read cpp row) l lists nesting nx at half)
+  module _ (after-identifier : Bool) (at : ℕ) (half : Bool) (i : at ≤ length row) (left : ℕ) where
+    pub turned : (nx : Next) → nx ≡ next cpp l lists after-identifier (kindAt row at) at half
+        → reading-within left (read cpp row l lists nesting after-identifier at half) ≡ reading-within left (go cpp row (read cpp row) l lists nesting nx at half)
     unfolding turn
-    turned nx e = ap (limited left) (fixed cpp row l lists nesting word at half i) ∙ ap (λ (x : Next). limited left (go cpp row (read cpp row) l lists nesting x at half)) (sym e)
+    turned nx e = ap (reading-within left) (fixed cpp row l lists nesting after-identifier at half i) ∙ ap (λ (x : Next). reading-within left (go cpp row (read cpp row) l lists nesting x at half)) (sym e)
 
-    pub turned-ends : (at′ : ℕ) → ends at′ ≡ next cpp l lists word (kindAt row at) at half → limited left (read cpp row l lists nesting word at half) ≡ done none at′ half left
+    pub turned-ends : (at′ : ℕ) → ends at′ ≡ next cpp l lists after-identifier (kindAt row at) at half → reading-within left (read cpp row l lists nesting after-identifier at half) ≡ done none at′ half left
     turned-ends at′ e = turned (ends at′) e ∙ limited-ends cpp row (read cpp row) l lists nesting at half left at′
 
-    pub turned-stops : (x : Fault) → stops x ≡ next cpp l lists word (kindAt row at) at half → limited left (read cpp row l lists nesting word at half) ≡ denied x left
+    pub turned-stops : (x : Fault) → stops x ≡ next cpp l lists after-identifier (kindAt row at) at half → reading-within left (read cpp row l lists nesting after-identifier at half) ≡ denied x left
     turned-stops x e = turned (stops x) e ∙ limited-stops cpp row (read cpp row) l lists nesting at half left x

@@ -9,56 +9,56 @@ use lib.ListN.{length}
 use lib.Dec.{T}
 use Rattle.rows.specs.Kinds.{NoToken}
 use Rattle.reader.specs.Nodes.{NodeKind, Nodes, count}
-use Rattle.reader.specs.Reading.{Level, top, round, square, argument, list, got, kindAt, MAX-NESTING-DEPTH, reading}
+use Rattle.reader.specs.Reading.{Region, top, round, square, argument, list, got, kindAt, MAX-NESTING-DEPTH, reading}
 use Rattle.reader.specs.Standing.{deeper, depth}
 use Rattle.reader.specs.Laws.Tokens.{inside, KindsKnown, past-end}
 use Rattle.reader.specs.Laws.Derived.{Opens, parens, brackets, opener-kind, closer-kind, nodal, Closes, by-half, by-one, by-two, Read, end-row, end-group, end-argument, a-token, a-group, a-list, last, more, derived}
 
 -- One at a list, none elsewhere: for the size it is the node of an argument, for the half of a `>>` the list itself, for the fuel one turn more.
-abbrev pub for-list : Level → ℕ
+abbrev pub for-list : Region → ℕ
 for-list top = 0
 for-list round = 0
 for-list square = 0
 for-list argument = 0
 for-list list = 1
 
-pub for-list-small : (l : Level) → for-list l ≤ 1
+pub for-list-small : (l : Region) → for-list l ≤ 1
 for-list-small top = omega arith
 for-list-small round = omega arith
 for-list-small square = omega arith
 for-list-small argument = omega arith
 for-list-small list = omega arith
 
-pub nodal-for-list : (l : Level) → T (nodal l) → for-list l ≡ 0
+pub nodal-for-list : (l : Region) → T (nodal l) → for-list l ≡ 0
 nodal-for-list top t = refl
 nodal-for-list round t = refl
 nodal-for-list square t = refl
 nodal-for-list argument t = refl
 nodal-for-list list t = absurd t
 
-pub group-for-list : {k : NodeKind} {v : Level} {o c : ℕ} → Opens k v o c → for-list v ≡ 0
+pub group-for-list : {k : NodeKind} {v : Region} {o c : ℕ} → Opens k v o c → for-list v ≡ 0
 group-for-list parens = refl
 group-for-list brackets = refl
 
 -- One at a group: the closer that it takes.
-abbrev pub closer : Level → ℕ
+abbrev pub closer : Region → ℕ
 closer top = 0
 closer round = 1
 closer square = 1
 closer argument = 0
 closer list = 0
 
-pub group-closer : {k : NodeKind} {v : Level} {o c : ℕ} → Opens k v o c → closer v ≡ 1
+pub group-closer : {k : NodeKind} {v : Region} {o c : ℕ} → Opens k v o c → closer v ≡ 1
 group-closer parens = refl
 group-closer brackets = refl
 
-group-deeper : {k : NodeKind} {v : Level} {o c : ℕ} → Opens k v o c → (d : ℕ) → deeper k d ≡ suc d
+group-deeper : {k : NodeKind} {v : Region} {o c : ℕ} → Opens k v o c → (d : ℕ) → deeper k d ≡ suc d
 unfolding deeper
 group-deeper parens d = refl
 group-deeper brackets d = refl
 
 module _ (row : List ℕ) where
-  pub opener-inside : {k : NodeKind} {v : Level} {o c : ℕ} → Opens k v o c → (a : ℕ) → kindAt row a ≡ o → a < length row
+  pub opener-inside : {k : NodeKind} {v : Region} {o c : ℕ} → Opens k v o c → (a : ℕ) → kindAt row a ≡ o → a < length row
   opener-inside op a e = inside row a (λ u. opener-kind op (sym e ∙ u))
 
   -- ---- where a reading ends
@@ -74,7 +74,7 @@ module _ (row : List ℕ) where
   closes-within {a = a} (by-two e two) s = inside row a (omega arith)
 
   -- A reading ends at its start or after it, a group behind its closer.
-  pub spans : {l : Level} {d n a a′ : ℕ} {h h′ : Bool} {x : Nodes} → Read row l d n a h x a′ h′ → a + closer l ≤ a′
+  pub spans : {l : Region} {d n a a′ : ℕ} {h h′ : Bool} {x : Nodes} → Read row l d n a h x a′ h′ → a + closer l ≤ a′
   spans (end-row e) = omega arith
   spans (end-group op e) = omega (arith, group-closer op)
   spans (end-argument s) = omega arith
@@ -84,12 +84,12 @@ module _ (row : List ℕ) where
   spans (last r c) = omega (arith, spans r, closes-forwards c)
   spans (more r e r₁) = omega (arith, spans r, spans r₁)
 
-  pub forwards : {l : Level} {d n a a′ : ℕ} {h h′ : Bool} {x : Nodes} → Read row l d n a h x a′ h′ → a ≤ a′
+  pub forwards : {l : Region} {d n a a′ : ℕ} {h h′ : Bool} {x : Nodes} → Read row l d n a h x a′ h′ → a ≤ a′
   forwards r = omega (arith, spans r)
 
   -- ---- nesting
 
-  pub nests : {l : Level} {d n a a′ : ℕ} {h h′ : Bool} {x : Nodes} → Read row l d n a h x a′ h′ → n ≤ MAX-NESTING-DEPTH → n + depth x ≤ MAX-NESTING-DEPTH
+  pub nests : {l : Region} {d n a a′ : ℕ} {h h′ : Bool} {x : Nodes} → Read row l d n a h x a′ h′ → n ≤ MAX-NESTING-DEPTH → n + depth x ≤ MAX-NESTING-DEPTH
   unfolding depth deeper
   nests (end-row e) s = omega arith
   nests (end-group op e) s = omega arith
@@ -102,7 +102,7 @@ module _ (row : List ℕ) where
 
   -- ---- size: at most two nodes a token, and one for a list
 
-  pub sized : {l : Level} {d n a a′ : ℕ} {h h′ : Bool} {x : Nodes} → Read row l d n a h x a′ h′ → count x + 2 * a ≤ 2 * a′ + for-list l
+  pub sized : {l : Region} {d n a a′ : ℕ} {h h′ : Bool} {x : Nodes} → Read row l d n a h x a′ h′ → count x + 2 * a ≤ 2 * a′ + for-list l
   unfolding count
   sized (end-row e) = omega arith
   sized (end-group op e) = omega arith
@@ -116,7 +116,7 @@ module _ (row : List ℕ) where
   -- ---- half a `>>`
 
   -- Where no list is open around it, a reading that begins with no half leaves none: a list leaves one only if another is open.
-  no-half : {l : Level} {d n a a′ : ℕ} {h h′ : Bool} {x : Nodes} → Read row l d n a h x a′ h′ → d ≤ for-list l → h ≡ false → h′ ≡ false
+  no-half : {l : Region} {d n a a′ : ℕ} {h h′ : Bool} {x : Nodes} → Read row l d n a h x a′ h′ → d ≤ for-list l → h ≡ false → h′ ≡ false
   no-half (end-row e) s q = q
   no-half (end-group op e) s q = q
   no-half (end-argument s₁) s q = q
@@ -136,7 +136,7 @@ module _ (row : List ℕ) where
   top-ends (a-list t lim e r₁ r) = top-ends r
 
   -- A reading that begins in the row, or at its end, ends so.
-  pub within : {l : Level} {d n a a′ : ℕ} {h h′ : Bool} {x : Nodes} → Read row l d n a h x a′ h′ → a ≤ length row → a′ ≤ length row
+  pub within : {l : Region} {d n a a′ : ℕ} {h h′ : Bool} {x : Nodes} → Read row l d n a h x a′ h′ → a ≤ length row → a′ ≤ length row
   within (end-row e) s = s
   within (end-group {a = a} op e) s = inside row a (λ u. closer-kind op (sym e ∙ u))
   within (end-argument s₁) s = s

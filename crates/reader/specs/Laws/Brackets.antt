@@ -11,7 +11,7 @@ use lib.Dec.{T}
 use Rattle.rows.specs.Kinds.{RightParen, RightBracket, Comma, Less, Greater, ShiftRight}
 use Rattle.prescan.specs.Matcher.{Role, closes, neither, role, same, Opener, Pair, Matcher, going, pop, meet, matcher, Paired}
 use Rattle.reader.specs.Nodes.{NodeKind, T-node, G-node, B-node, L-node, A-node, Nodes, none, node}
-use Rattle.reader.specs.Reading.{Level, top, round, square, argument, list, got, kindAt, reading}
+use Rattle.reader.specs.Reading.{Region, top, round, square, argument, list, got, kindAt, reading}
 use Rattle.reader.specs.Laws.Tokens.{KindsKnown, taken}
 use Rattle.reader.specs.Laws.Derived.{Opens, parens, brackets, Closes, by-half, by-one, by-two, Read, end-row, end-group, end-argument, a-token, a-group, a-list, last, more, derived}
 use Rattle.reader.specs.Laws.Bounds.{closes-forwards, closer, group-closer, spans, nothing-left}
@@ -82,7 +82,7 @@ module _ (row : List ℕ) where
   -- ---- where the tokens of a tree lie
 
   -- A node's token is one of those that were read, and not the closer of its level.
-  lies : {l : Level} {d n a a′ : ℕ} {h h′ : Bool} {x : Nodes} {k : NodeKind} {i : ℕ} {b : Nodes} → Read row l d n a h x a′ h′ → In k i b x
+  lies : {l : Region} {d n a a′ : ℕ} {h h′ : Bool} {x : Nodes} {k : NodeKind} {i : ℕ} {b : Nodes} → Read row l d n a h x a′ h′ → In k i b x
       → (a ≤ i) × (i + closer l < a′)
   lies (a-token t p r) here = omega (arith, spans row r)
   lies (a-token t p r) (beside u) = omega (arith, lies r u)
@@ -121,42 +121,42 @@ module _ (row : List ℕ) where
   run-shut {a = a} (by-two e two) stack ps = run-past (meets row a ShiftRight e (omega arith) refl) stack ps
 
   -- A level that ends before a′ has its closer, if it takes one, at e.
-  abbrev Ends : Level → (e a′ : ℕ) → Type 0
+  abbrev Ends : Region → (e a′ : ℕ) → Type 0
   Ends top e a′ = e ≡ a′
   Ends round e a′ = (suc e ≡ a′) × (kindAt row e ≡ RightParen)
   Ends square e a′ = (suc e ≡ a′) × (kindAt row e ≡ RightBracket)
   Ends argument e a′ = e ≡ a′
   Ends list e a′ = e ≡ a′
 
-  ends-group : {k : NodeKind} {v : Level} {o c : ℕ} → Opens k v o c → (e : ℕ) → kindAt row e ≡ c → Ends v e (suc e)
+  ends-group : {k : NodeKind} {v : Region} {o c : ℕ} → Opens k v o c → (e : ℕ) → kindAt row e ≡ c → Ends v e (suc e)
   ends-group parens e q = (refl, q)
   ends-group brackets e q = (refl, q)
 
-  group-ends : {k : NodeKind} {v : Level} {o c : ℕ} → Opens k v o c → (e a₁ : ℕ) → Ends v e a₁ → (suc e ≡ a₁) × (kindAt row e ≡ c)
+  group-ends : {k : NodeKind} {v : Region} {o c : ℕ} → Opens k v o c → (e a₁ : ℕ) → Ends v e a₁ → (suc e ≡ a₁) × (kindAt row e ≡ c)
   group-ends parens e a₁ en = en
   group-ends brackets e a₁ en = en
 
   -- The opener goes on the stack, and comes off with its partner.
-  run-open : {k : NodeKind} {v : Level} {o c : ℕ} (op : Opens k v o c) (a : ℕ) → kindAt row a ≡ o → (stack : List Opener) (ps : List Pair)
+  run-open : {k : NodeKind} {v : Region} {o c : ℕ} (op : Opens k v o c) (a : ℕ) → kindAt row a ≡ o → (stack : List Opener) (ps : List Pair)
       → run a (going stack ps) ≡ run (suc a) (going (record { delimiter = delimiter-of op; token = a } ∷ stack) ps)
   unfolding meet
   run-open op a e stack ps = run-at (meets-opener row op a e) (going stack ps)
 
-  pops : {k : NodeKind} {v : Level} {o c : ℕ} (op : Opens k v o c) (e i : ℕ) (stack : List Opener) (ps : List Pair)
+  pops : {k : NodeKind} {v : Region} {o c : ℕ} (op : Opens k v o c) (e i : ℕ) (stack : List Opener) (ps : List Pair)
       → meet (closes (delimiter-of op)) e (going (record { delimiter = delimiter-of op; token = i } ∷ stack) ps)
       ≡ going stack (record { opener = i; closer = e } ∷ ps)
   unfolding meet pop same
   pops parens e i stack ps = refl
   pops brackets e i stack ps = refl
 
-  run-close : {k : NodeKind} {v : Level} {o c : ℕ} (op : Opens k v o c) (e a₁ : ℕ) → Ends v e a₁ → (i : ℕ) (stack : List Opener) (ps : List Pair)
+  run-close : {k : NodeKind} {v : Region} {o c : ℕ} (op : Opens k v o c) (e a₁ : ℕ) → Ends v e a₁ → (i : ℕ) (stack : List Opener) (ps : List Pair)
       → run e (going (record { delimiter = delimiter-of op; token = i } ∷ stack) ps) ≡ run a₁ (going stack (record { opener = i; closer = e } ∷ ps))
   run-close op e a₁ en i stack ps =
       let g = group-ends op e a₁ en in
       rw (← (g .0), ← (pops op e i stack ps)) (run-at (meets-closer row op e (g .1)) (going (record { delimiter = delimiter-of op; token = i } ∷ stack) ps))
 
   -- The matcher goes from a to where the level ends with the same stack, and has paired each group's opener.
-  record Matched (l : Level) (a a′ : ℕ) (x : Nodes) (stack : List Opener) (ps : List Pair) : Type 0 where
+  record Matched (l : Region) (a a′ : ℕ) (x : Nodes) (stack : List Opener) (ps : List Pair) : Type 0 where
     e : ℕ
     qs : List Pair
     ends : Ends l e a′
@@ -164,7 +164,7 @@ module _ (row : List ℕ) where
     kept : (p : Pair) → List·Memᴰ p ps → List·Memᴰ p qs
     partners : Partners qs x a′
 
-  matched : {l : Level} {d n a a′ : ℕ} {h h′ : Bool} {x : Nodes} → Read row l d n a h x a′ h′ → NoStray row x → (stack : List Opener) (ps : List Pair)
+  matched : {l : Region} {d n a a′ : ℕ} {h h′ : Bool} {x : Nodes} → Read row l d n a h x a′ h′ → NoStray row x → (stack : List Opener) (ps : List Pair)
       → Matched l a a′ x stack ps
   unfolding role
   matched (end-row {a = a} e) z stack ps = record { e = a; qs = ps; ends = refl; goes = refl; kept = λ p m. m; partners = no-partners }

@@ -13,7 +13,7 @@ use Rattle.rows.specs.Kinds.{LeftParen, RightParen, LeftBracket, RightBracket, 
 use Rattle.rows.specs.Laws.Tests.{by-if}
 use Rattle.rows.specs.declared.answer.TypeNameError.the-variants.{NestingLimitExceeded}
 use Rattle.reader.specs.Nodes.{NodeKind, T-node, G-node, B-node, L-node, A-node, Nodes, none, node}
-use Rattle.reader.specs.Reading.{Level, top, round, square, argument, list, Fault, refusal, Next, ends, stops, token, group, angle, first, Got, got, bad, case, before, closes, starts, next, kindAt, MAX-NESTING-DEPTH, Reader, down, argued, go, turn, readF, read, reading}
+use Rattle.reader.specs.Reading.{Region, top, round, square, argument, list, Fault, refusal, Next, ends, stops, token, group, angle, first, Got, got, bad, case, before, is-angle-close, starts, next, kindAt, MAX-NESTING-DEPTH, Reader, down, argued, go, turn, readF, read, reading}
 
 -- What a test that fails tells.
 pub neqb : (m n : ℕ) → T (not (eqb m n)) → m ≢ n
@@ -22,15 +22,15 @@ neqb m n t e = T-not (eqb m n) t (subst (λ (k : ℕ). T (eqb m k)) e (eqb-refl 
 -- ---- the derivation
 
 -- A group of this kind holds this level, between tokens of these kinds.
-pub data Opens : NodeKind → Level → (opener closer : ℕ) → Type 0 where
+pub data Opens : NodeKind → Region → (opener closer : ℕ) → Type 0 where
   parens : Opens G-node round LeftParen RightParen
   brackets : Opens B-node square LeftBracket RightBracket
 
-pub opener-kind : {k : NodeKind} {v : Level} {o c : ℕ} → Opens k v o c → o ≢ NoToken
+pub opener-kind : {k : NodeKind} {v : Region} {o c : ℕ} → Opens k v o c → o ≢ NoToken
 opener-kind parens = omega arith
 opener-kind brackets = omega arith
 
-pub closer-kind : {k : NodeKind} {v : Level} {o c : ℕ} → Opens k v o c → c ≢ NoToken
+pub closer-kind : {k : NodeKind} {v : Region} {o c : ℕ} → Opens k v o c → c ≢ NoToken
 closer-kind parens = omega arith
 closer-kind brackets = omega arith
 
@@ -41,7 +41,7 @@ pub record Plain (k : ℕ) : Type 0 where
   pub no-bracket : k ≢ LeftBracket
 
 -- Nodes are read at this level; at `list`, arguments.
-abbrev pub nodal : Level → Bool
+abbrev pub nodal : Region → Bool
 nodal top = true
 nodal round = true
 nodal square = true
@@ -63,16 +63,16 @@ module _ (row : List ℕ) where
     at-comma : {half : Bool} → kindAt row at ≡ Comma → Stops lists at half
 
   -- A level is read: its nodes, the token after it, and whether half a `>>` is left.
-  pub data Read : Level → (lists nesting at : ℕ) (half : Bool) → Nodes → (at′ : ℕ) (half′ : Bool) → Type 0 where
+  pub data Read : Region → (lists nesting at : ℕ) (half : Bool) → Nodes → (at′ : ℕ) (half′ : Bool) → Type 0 where
     end-row : {d n a : ℕ} {h : Bool} → kindAt row a ≡ NoToken → Read top d n a h none a h
-    end-group : {v : Level} {k : NodeKind} {o c d n a : ℕ} {h : Bool} → Opens k v o c → kindAt row a ≡ c → Read v d n a h none (suc a) h
+    end-group : {v : Region} {k : NodeKind} {o c d n a : ℕ} {h : Bool} → Opens k v o c → kindAt row a ≡ c → Read v d n a h none (suc a) h
     end-argument : {d n a : ℕ} {h : Bool} → Stops d a h → Read argument d n a h none a h
-    a-token : {l : Level} {d n a a′ : ℕ} {h h′ : Bool} {x : Nodes} → T (nodal l) → Plain (kindAt row a)
+    a-token : {l : Region} {d n a a′ : ℕ} {h h′ : Bool} {x : Nodes} → T (nodal l) → Plain (kindAt row a)
         → Read l d n (suc a) h x a′ h′ → Read l d n a h (node T-node a none x) a′ h′
-    a-group : {l v : Level} {k : NodeKind} {o c d n a a₁ a₂ : ℕ} {h h₁ h₂ : Bool} {b x : Nodes}
+    a-group : {l v : Region} {k : NodeKind} {o c d n a a₁ a₂ : ℕ} {h h₁ h₂ : Bool} {b x : Nodes}
         → T (nodal l) → n < MAX-NESTING-DEPTH → Opens k v o c → kindAt row a ≡ o
         → Read v d (suc n) (suc a) h b a₁ h₁ → Read l d n a₁ h₁ x a₂ h₂ → Read l d n a h (node k a b x) a₂ h₂
-    a-list : {l : Level} {d n a a₁ a₂ : ℕ} {h h₁ h₂ : Bool} {b x : Nodes} → T (nodal l) → n < MAX-NESTING-DEPTH → kindAt row a ≡ Less
+    a-list : {l : Region} {d n a a₁ a₂ : ℕ} {h h₁ h₂ : Bool} {b x : Nodes} → T (nodal l) → n < MAX-NESTING-DEPTH → kindAt row a ≡ Less
         → Read list (suc d) (suc n) (suc a) h b a₁ h₁ → Read l d n a₁ h₁ x a₂ h₂ → Read l d n a h (node L-node a b x) a₂ h₂
     last : {k : NodeKind} {d n a a₁ a₂ i : ℕ} {h₁ h₂ : Bool} {y z : Nodes}
         → Read argument d n a false (node k i y z) a₁ h₁ → Closes d a₁ h₁ a₂ h₂ → Read list d n a false (node A-node a (node k i y z) none) a₂ h₂
@@ -94,12 +94,12 @@ module _ (row : List ℕ) where
   begins (a-list t lim e r₁ r) = t
 
   -- A reading is sound if what it accepts is derived.
-  abbrev pub Sound : Level → (d n a : ℕ) (h : Bool) → Got → Type 0
+  abbrev pub Sound : Region → (d n a : ℕ) (h : Bool) → Got → Type 0
   Sound l d n a h (got x a′ h′ m) = Read l d n a h x a′ h′
   Sound l d n a h (bad e m) = Unit {0}
 
   -- What is known where `next` says what is to be done.
-  abbrev pub Allowed : Level → (d n a : ℕ) (h : Bool) → Next → Type 0
+  abbrev pub Allowed : Region → (d n a : ℕ) (h : Bool) → Next → Type 0
   Allowed l d n a h (ends a′) = Read l d n a h none a′ h
   Allowed l d n a h (stops e) = Unit {0}
   Allowed l d n a h (token w) = T (nodal l) × Plain (kindAt row a)
@@ -108,14 +108,14 @@ module _ (row : List ℕ) where
   Allowed l d n a h first = (l ≡ list) × (h ≡ false)
 
   -- A property of what comes of a sound reading, by its two cases.
-  by-case : {l : Level} {d n a : ℕ} {h : Bool} (P : Got → Type 0) (g : Got) → Sound l d n a h g
+  by-case : {l : Region} {d n a : ℕ} {h : Bool} (P : Got → Type 0) (g : Got) → Sound l d n a h g
       → (f : Nodes → ℕ → Bool → ℕ → Got) → ((x : Nodes) (a′ : ℕ) (h′ : Bool) (m : ℕ) → Read l d n a h x a′ h′ → P (f x a′ h′ m))
       → (f′ : Fault → ℕ → Got) → ((e : Fault) (m : ℕ) → P (f′ e m)) → P (case g f f′)
   unfolding case
   by-case P (got x a′ h′ m) s f p f′ q = p x a′ h′ m s
   by-case P (bad e m) s f p f′ q = q e m
 
-  before-sound : {l l′ : Level} {d n a d′ n′ a₁ : ℕ} {h h₁ : Bool} (k : NodeKind) (i : ℕ) (b : Nodes) (m : ℕ) (g : Got) → Sound l′ d′ n′ a₁ h₁ g
+  before-sound : {l l′ : Region} {d n a d′ n′ a₁ : ℕ} {h h₁ : Bool} (k : NodeKind) (i : ℕ) (b : Nodes) (m : ℕ) (g : Got) → Sound l′ d′ n′ a₁ h₁ g
       → ((x : Nodes) (a′ : ℕ) (h′ : Bool) → Read l′ d′ n′ a₁ h₁ x a′ h′ → Read l d n a h (node k i b x) a′ h′)
       → Sound l d n a h (before k i b m g)
   unfolding before
@@ -123,20 +123,20 @@ module _ (row : List ℕ) where
   before-sound k i b m (bad e m′) s f = tt
 
   module _ (cpp : Bool) where
-    starts-allowed : (l : Level) → T (nodal l) → (d n a : ℕ) (h word : Bool) → kindAt row a ≢ NoToken → Allowed l d n a h (starts cpp word (kindAt row a))
+    starts-allowed : (l : Region) → T (nodal l) → (d n a : ℕ) (h after-identifier : Bool) → kindAt row a ≢ NoToken → Allowed l d n a h (starts cpp after-identifier (kindAt row a))
     unfolding starts
-    starts-allowed l t d n a h word q =
+    starts-allowed l t d n a h after-identifier q =
         by-if (Allowed l d n a h) (eqb (kindAt row a) LeftParen) (λ u. (t, LeftParen, RightParen, parens, eqb→eq _ _ u)) λ no-paren.
         by-if (Allowed l d n a h) (eqb (kindAt row a) LeftBracket) (λ u. (t, LeftBracket, RightBracket, brackets, eqb→eq _ _ u)) λ no-bracket.
-        by-if (Allowed l d n a h) (eqb (kindAt row a) Less && cpp && word)
-        (λ u. (t, eqb→eq _ _ (and-yes (eqb (kindAt row a) Less) cpp (and-yes (eqb (kindAt row a) Less && cpp) word u .0) .0))) λ _.
+        by-if (Allowed l d n a h) (eqb (kindAt row a) Less && cpp && after-identifier)
+        (λ u. (t, eqb→eq _ _ (and-yes (eqb (kindAt row a) Less) cpp (and-yes (eqb (kindAt row a) Less && cpp) after-identifier u .0) .0))) λ _.
         (t, record { inside = q; no-paren = neqb _ _ no-paren; no-bracket = neqb _ _ no-bracket })
 
-    argument-stops : (d a : ℕ) (h : Bool) → T (closes d (kindAt row a) h || eqb (kindAt row a) Comma) → Stops d a h
-    unfolding closes
+    argument-stops : (d a : ℕ) (h : Bool) → T (is-angle-close d (kindAt row a) h || eqb (kindAt row a) Comma) → Stops d a h
+    unfolding is-angle-close
     argument-stops d a true t = at-half
     argument-stops d a false t =
-        elim (or-yes (closes d (kindAt row a) false) (eqb (kindAt row a) Comma) t) [
+        elim (or-yes (is-angle-close d (kindAt row a) false) (eqb (kindAt row a) Comma) t) [
           | inl u ↦
               elim (or-yes (eqb (kindAt row a) Greater) (eqb (kindAt row a) ShiftRight && leb 2 d) u) [
                 | inl v ↦ at-one (eqb→eq _ _ v)
@@ -145,49 +145,49 @@ module _ (row : List ℕ) where
           | inr u ↦ at-comma (eqb→eq _ _ u)
         ]
 
-    open-half : (d a : ℕ) (h : Bool) → T (not (closes d (kindAt row a) h)) → h ≡ false
-    unfolding closes
+    open-half : (d a : ℕ) (h : Bool) → T (not (is-angle-close d (kindAt row a) h)) → h ≡ false
+    unfolding is-angle-close
     open-half d a true t = absurd t
     open-half d a false t = refl
 
-    pub next-allowed : (l : Level) (d n : ℕ) (word : Bool) (a : ℕ) (h : Bool) → Allowed l d n a h (next cpp l d word (kindAt row a) a h)
+    pub next-allowed : (l : Region) (d n : ℕ) (after-identifier : Bool) (a : ℕ) (h : Bool) → Allowed l d n a h (next cpp l d after-identifier (kindAt row a) a h)
     unfolding next
-    next-allowed top d n word a h =
+    next-allowed top d n after-identifier a h =
         by-if (Allowed top d n a h) (eqb (kindAt row a) NoToken) (λ t. end-row (eqb→eq _ _ t)) λ q.
         by-if (Allowed top d n a h) (eqb (kindAt row a) RightParen || eqb (kindAt row a) RightBracket) (λ t. tt) λ _.
-        starts-allowed top tt d n a h word (neqb _ _ q)
-    next-allowed round d n word a h =
+        starts-allowed top tt d n a h after-identifier (neqb _ _ q)
+    next-allowed round d n after-identifier a h =
         by-if (Allowed round d n a h) (eqb (kindAt row a) NoToken) (λ t. tt) λ q.
         by-if (Allowed round d n a h) (eqb (kindAt row a) RightParen) (λ t. end-group parens (eqb→eq _ _ t)) λ _.
         by-if (Allowed round d n a h) (eqb (kindAt row a) RightBracket) (λ t. tt) λ _.
-        starts-allowed round tt d n a h word (neqb _ _ q)
-    next-allowed square d n word a h =
+        starts-allowed round tt d n a h after-identifier (neqb _ _ q)
+    next-allowed square d n after-identifier a h =
         by-if (Allowed square d n a h) (eqb (kindAt row a) NoToken) (λ t. tt) λ q.
         by-if (Allowed square d n a h) (eqb (kindAt row a) RightBracket) (λ t. end-group brackets (eqb→eq _ _ t)) λ _.
         by-if (Allowed square d n a h) (eqb (kindAt row a) RightParen) (λ t. tt) λ _.
-        starts-allowed square tt d n a h word (neqb _ _ q)
-    next-allowed argument d n word a h =
-        by-if (Allowed argument d n a h) (closes d (kindAt row a) h || eqb (kindAt row a) Comma) (λ t. end-argument (argument-stops d a h t)) λ _.
+        starts-allowed square tt d n a h after-identifier (neqb _ _ q)
+    next-allowed argument d n after-identifier a h =
+        by-if (Allowed argument d n a h) (is-angle-close d (kindAt row a) h || eqb (kindAt row a) Comma) (λ t. end-argument (argument-stops d a h t)) λ _.
         by-if (Allowed argument d n a h) (eqb (kindAt row a) NoToken) (λ t. tt) λ q.
-        starts-allowed argument tt d n a h word (neqb _ _ q)
-    next-allowed list d n word a h =
-        by-if (Allowed list d n a h) (closes d (kindAt row a) h) (λ t. tt) λ q. (refl, open-half d a h q)
+        starts-allowed argument tt d n a h after-identifier (neqb _ _ q)
+    next-allowed list d n after-identifier a h =
+        by-if (Allowed list d n a h) (is-angle-close d (kindAt row a) h) (λ t. tt) λ q. (refl, open-half d a h q)
 
     -- A turn keeps soundness.
-    module _ (read : Reader cpp row) (ok : (l : Level) (d n : ℕ) (w : Bool) (a : ℕ) (h : Bool) → Sound l d n a h (read l d n w a h)) where
-      pub down-sound : (b : Bool) (l : Level) (d n a : ℕ) (h : Bool) → Sound l d n a h (down cpp row read b l d n a h)
+    module _ (read : Reader cpp row) (ok : (l : Region) (d n : ℕ) (w : Bool) (a : ℕ) (h : Bool) → Sound l d n a h (read l d n w a h)) where
+      pub down-sound : (b : Bool) (l : Region) (d n a : ℕ) (h : Bool) → Sound l d n a h (down cpp row read b l d n a h)
       unfolding down
       down-sound true l d n a h = ok l d n false a h
       down-sound false l d n a h = tt
 
-      by-down : (P : Got → Type 0) (b : Bool) (l : Level) (d n a : ℕ) (h : Bool)
+      by-down : (P : Got → Type 0) (b : Bool) (l : Region) (d n a : ℕ) (h : Bool)
           → (f : Nodes → ℕ → Bool → ℕ → Got) → ((x : Nodes) (a′ : ℕ) (h′ : Bool) (m : ℕ) → T b → Read l d n a h x a′ h′ → P (f x a′ h′ m))
           → (f′ : Fault → ℕ → Got) → ((e : Fault) (m : ℕ) → P (f′ e m)) → P (case (down cpp row read b l d n a h) f f′)
       unfolding down case
       by-down P true l d n a h f p f′ q = by-case P (read l d n false a h) (ok l d n false a h) f (λ x a′ h′ m r. p x a′ h′ m tt r) f′ q
       by-down P false l d n a h f p f′ q = q (refusal NestingLimitExceeded) 0
 
-      argued-sound : (l : Level) (d n a : ℕ) (x : Nodes) (comma : Bool) (a₁ : ℕ) (h₁ : Bool) (m : ℕ) → Read argument d n a false x a₁ h₁ → Stops d a₁ h₁
+      argued-sound : (l : Region) (d n a : ℕ) (x : Nodes) (comma : Bool) (a₁ : ℕ) (h₁ : Bool) (m : ℕ) → Read argument d n a false x a₁ h₁ → Stops d a₁ h₁
           → (T comma → kindAt row a₁ ≡ Comma) → (T (not comma) → kindAt row a₁ ≢ Comma) → Sound list d n a false (argued cpp row read l d n a x comma a₁ h₁ m)
       unfolding argued
       argued-sound l d n a none comma a₁ h₁ m r s f g = tt
@@ -200,7 +200,7 @@ module _ (row : List ℕ) where
       argued-sound l d n a (node k i b y) false a₁ false m r (at-two e two) f g = rw e (last r (by-two e two))
       argued-sound l d n a (node k i b y) false a₁ false m r (at-comma e) f g = absurd (g tt e)
 
-      module _ (l : Level) (d n a : ℕ) (h : Bool) where
+      module _ (l : Region) (d n a : ℕ) (h : Bool) where
         go-sound : (nx : Next) → Allowed l d n a h nx → Sound l d n a h (go cpp row read l d n nx a h)
         unfolding go
         go-sound (ends a′) s = s
@@ -222,17 +222,17 @@ module _ (row : List ℕ) where
             _ (λ x a₁ h₁ m r. argued-sound list d n a x (eqb (kindAt row a₁) Comma) a₁ h₁ m r (stopped r) (eqb→eq _ Comma) (neqb _ Comma))
             _ (λ e m. tt))
 
-      turn-sound : (l : Level) (d n : ℕ) (w : Bool) (a : ℕ) (h : Bool) → Sound l d n a h (turn cpp row read l d n w a h)
+      turn-sound : (l : Region) (d n : ℕ) (w : Bool) (a : ℕ) (h : Bool) → Sound l d n a h (turn cpp row read l d n w a h)
       unfolding turn
       turn-sound l d n w a h = go-sound l d n a h (next cpp l d w (kindAt row a) a h) (next-allowed l d n w a h)
 
-    pub readF-sound : (f : ℕ) (l : Level) (d n : ℕ) (w : Bool) (a : ℕ) (h : Bool) → Sound l d n a h (readF cpp row f l d n w a h)
+    pub readF-sound : (f : ℕ) (l : Region) (d n : ℕ) (w : Bool) (a : ℕ) (h : Bool) → Sound l d n a h (readF cpp row f l d n w a h)
     unfolding readF
     readF-sound zero l d n w a h = tt
     readF-sound (suc f) l d n w a h = turn-sound (readF cpp row f) (readF-sound f) l d n w a h
 
     -- What is read at any level has a derivation,
-    pub read-derived : (l : Level) (d n : ℕ) (w : Bool) (a : ℕ) (h : Bool) {x : Nodes} {a′ : ℕ} {h′ : Bool} {m : ℕ} → read cpp row l d n w a h ≡ got x a′ h′ m
+    pub read-derived : (l : Region) (d n : ℕ) (w : Bool) (a : ℕ) (h : Bool) {x : Nodes} {a′ : ℕ} {h′ : Bool} {m : ℕ} → read cpp row l d n w a h ≡ got x a′ h′ m
         → Read l d n a h x a′ h′
     unfolding read
     read-derived l d n w a h e = subst (Sound l d n a h) e (readF-sound (2 * length row + 2) l d n w a h)

@@ -12,12 +12,12 @@ use lib.Dec.{eqb}
 use Rattle.rows.specs.Kinds.{Identifier, Comma, NoToken}
 use Rattle.rows.specs.declared.answer.TypeNameError.the-variants.{NestingLimitExceeded}
 use Rattle.reader.specs.Nodes.{A-node, Nodes, none, node, number, count, node-width, records}
-use Rattle.reader.specs.Reading.{argument, list, Fault, refusal, no-list, first, closes, starts, next, kindAt, MAX-NESTING-DEPTH, read}
-use Rattle.reader.specs.ReaderSays.{Ready, Told, Denied, Found, NodeAnswers, ListSays, ListAnswers, level-due, rest-due, listing-of, closed-at, closed-half}
+use Rattle.reader.specs.Reading.{argument, list, Fault, refusal, no-list, first, is-angle-close, starts, next, kindAt, MAX-NESTING-DEPTH, read}
+use Rattle.reader.specs.ReaderSays.{ParserReady, Told, Denied, Found, NodeAnswers, ListSays, ListAnswers, region-due, rest-due, list-reading-of, closed-at, closed-half}
 use Rattle.reader.specs.Laws.Tokens.{inside}
 use Rattle.reader.specs.Laws.Loops.{_then_, then-count}
 use Rattle.reader.specs.Laws.Buffer.{lent, given-back, after, front, holds, argument-written}
-use Rattle.reader.specs.Allowance.{Limited, done, denied, limited, behind}
+use Rattle.reader.specs.Allowance.{Limited, done, denied, reading-within, behind}
 use Rattle.reader.specs.Laws.Allowance.{on-done, argued-left, limited-first}
 use Rattle.reader.specs.Laws.Ahead.{ahead, ahead-behind, ahead-done, down-deep, down-read, turned, turned-ends, turned-stops}
 use Rattle.reader.specs.Laws.GroupWays.{node-stopped}
@@ -27,7 +27,7 @@ use Rattle.reader.specs.declared.parser.Stop.{Stop}
 use Rattle.reader.specs.declared.parser.Stop.the-variants.{Refused, Spent}
 use Rattle.reader.specs.declared.parser.Reading as CodeReading
 use Rattle.reader.specs.declared.parser.Reading.the-variants.{Stopped}
-use Rattle.reader.specs.declared.parser.Listing.{Listing}
+use Rattle.reader.specs.declared.parser.ListReading.{ListReading}
 use Rattle.reader.specs.declared.parser.ListEnd.{ListEnd}
 use Rattle.reader.specs.declared.parser.ListEnd.the-variants.{Closed, EmptyArgument, Unterminated}
 
@@ -39,13 +39,13 @@ pub record ArgumentsLoop (cpp : Bool) (row tree₀ : List ℕ) (lists nesting : 
   pub reached : Reached cpp row list lists nesting (rest-due cpp row lists nesting false p list) false now m (take (node-width * m) tree)
 
 -- The argument began at `now₁`, with the buffer `tree₁` and its node at `head`.
-pub record NodesLoop (cpp : Bool) (row : List ℕ) (lists nesting head : ℕ) (tree₁ : List ℕ) (now₁ : TypeSyntaxParser) (tree : List ℕ) (now : TypeSyntaxParser) (word : Bool) (i : ℕ) : Type 0 where
+pub record NodesLoop (cpp : Bool) (row : List ℕ) (lists nesting head : ℕ) (tree₁ : List ℕ) (now₁ : TypeSyntaxParser) (tree : List ℕ) (now : TypeSyntaxParser) (after-identifier : Bool) (i : ℕ) : Type 0 where
   pub long : length tree ≡ length tree₁
   pub same : take head tree ≡ take head tree₁
   pub way : Way row (now₁ .cursor) now i
-  pub reached : Reached cpp row argument lists nesting (rest-due cpp row lists nesting false now₁ argument) word now i (take (node-width * i) (drop (head + node-width) tree))
+  pub reached : Reached cpp row argument lists nesting (rest-due cpp row lists nesting false now₁ argument) after-identifier now i (take (node-width * i) (drop (head + node-width) tree))
 
-pub arguments-begin : {cpp : Bool} {row tree : List ℕ} {lists nesting limit spare : ℕ} {p : TypeSyntaxParser} → Ready row (p .cursor) lists nesting limit spare tree
+pub arguments-begin : {cpp : Bool} {row tree : List ℕ} {lists nesting limit spare : ℕ} {p : TypeSyntaxParser} → ParserReady row (p .cursor) lists nesting limit spare tree
     → ArgumentsLoop cpp row tree lists nesting p tree p 0
 arguments-begin ready = record { long = refl; way = record { forwards = omega arith; within = omega arith; size = omega arith }; reached = begun }
 
@@ -59,7 +59,7 @@ behind-nodes m i = node-width * m + node-width + node-width * i
 
 -- An argument ends where the reading stands.
 abbrev pub ends-at : List ℕ → (lists : ℕ) → TypeSyntaxParser → Bool
-ends-at row lists now = closes lists (kindAt row (now .cursor)) (now .«pending_greater») || eqb (kindAt row (now .cursor)) Comma
+ends-at row lists now = is-angle-close lists (kindAt row (now .cursor)) (now .«pending_greater») || eqb (kindAt row (now .cursor)) Comma
 
 -- ---- how the arguments end
 
@@ -108,11 +108,11 @@ module _ {row tree₀ : List ℕ} {at : ℕ} {o : Limited} {tree tree′ : List 
 
 -- What a function's test says of the token that it was told.
 module _ (lists : ℕ) (half : Bool) {k k′ : ℕ} {r b : Bool} (ke : k ≡ k′) where
-  pub closes-so : r ≡ closes lists k half → r ≡ b → closes lists k′ half ≡ b
-  closes-so h e = ap (λ (j : ℕ). closes lists j half) (sym ke) ∙ sym h ∙ e
+  pub closes-so : r ≡ is-angle-close lists k half → r ≡ b → is-angle-close lists k′ half ≡ b
+  closes-so h e = ap (λ (j : ℕ). is-angle-close lists j half) (sym ke) ∙ sym h ∙ e
 
-  pub ends-so : r ≡ (closes lists k half || eqb k Comma) → r ≡ b → (closes lists k′ half || eqb k′ Comma) ≡ b
-  ends-so h e = ap (λ (j : ℕ). closes lists j half || eqb j Comma) (sym ke) ∙ sym h ∙ e
+  pub ends-so : r ≡ (is-angle-close lists k half || eqb k Comma) → r ≡ b → (is-angle-close lists k′ half || eqb k′ Comma) ≡ b
+  ends-so h e = ap (λ (j : ℕ). is-angle-close lists j half || eqb j Comma) (sym ke) ∙ sym h ∙ e
 
 count-none : (x : Nodes) → count x ≡ 0 → x ≡ none
 unfolding count
@@ -125,15 +125,15 @@ closed-later at true = omega arith
 closed-later at false = omega arith
 
 -- What closes a list is a token, if no half a `>>` is left.
-closer-here : (row : List ℕ) (lists at : ℕ) (half : Bool) → at ≤ length row → (closes lists (kindAt row at) half || eqb (kindAt row at) Comma) ≡ true → closed-at at half ≤ length row
-unfolding closed-at closes
+closer-here : (row : List ℕ) (lists at : ℕ) (half : Bool) → at ≤ length row → (is-angle-close lists (kindAt row at) half || eqb (kindAt row at) Comma) ≡ true → closed-at at half ≤ length row
+unfolding closed-at is-angle-close
 closer-here row lists at true i e = i
 closer-here row lists at false i e = inside row at (λ k. let h = rw k at e in let z : _≡_ {A = ℕ} 0 1 = cc in absurd (omega arith))
 
 -- What an argument that is not empty leads to.
 module _ (cpp : Bool) (row : List ℕ) (lists nesting at₁ : ℕ) (half₁ : Bool) where
   argued-comma : (at : ℕ) (half : Bool) (left : ℕ) (y : Nodes) → 0 < count y
-      → argued-left cpp row (read cpp row) list lists nesting at₁ half₁ y true at half left ≡ behind A-node at₁ y (limited left (read cpp row list lists nesting false (suc at) half))
+      → argued-left cpp row (read cpp row) list lists nesting at₁ half₁ y true at half left ≡ behind A-node at₁ y (reading-within left (read cpp row list lists nesting false (suc at) half))
   unfolding argued-left count
   argued-comma at half left none h = absurd (omega arith)
   argued-comma at half left (node k i b y) h = refl
@@ -146,14 +146,14 @@ module _ (cpp : Bool) (row : List ℕ) (lists nesting at₁ : ℕ) (half₁ : Bo
   argued-closed at left (node k i b y) h false = refl
 
 -- The list is too deep.
-pub list-deep : (cpp : Bool) (row : List ℕ) (lists nesting : ℕ) (p : TypeSyntaxParser) → MAX-NESTING-DEPTH < nesting → (e : Fault) × (level-due cpp row list lists nesting p ≡ denied e (p .left))
+pub list-deep : (cpp : Bool) (row : List ℕ) (lists nesting : ℕ) (p : TypeSyntaxParser) → MAX-NESTING-DEPTH < nesting → (e : Fault) × (region-due cpp row list lists nesting p ≡ denied e (p .left))
 list-deep cpp row lists nesting p h = (refusal NestingLimitExceeded, down-deep cpp row list lists nesting (p .left) (p .cursor) (p .«pending_greater») h)
 
 module _ {cpp : Bool} {row : List ℕ} {lists nesting : ℕ} where
   module _ {tree₀ : List ℕ} {p : TypeSyntaxParser} {tree₁ : List ℕ} {now₁ : TypeSyntaxParser} {m : ℕ}
       (outer : ArgumentsLoop cpp row tree₀ lists nesting p tree₁ now₁ m) (shallow : nesting ≤ MAX-NESTING-DEPTH) where
     abbrev whole : Limited
-    whole = level-due cpp row list lists nesting p
+    whole = region-due cpp row list lists nesting p
 
     abbrev at₁ : ℕ
     at₁ = now₁ .cursor
@@ -168,14 +168,14 @@ module _ {cpp : Bool} {row : List ℕ} {lists nesting : ℕ} where
     arguments-denied e left q = downs ∙ reached-denied (outer .reached) e left q
 
     -- An argument would begin where the list can end.
-    pub empty-first : closes lists (kindAt row at₁) (now₁ .«pending_greater») ≡ true → (e : Fault) × (whole ≡ denied e (now₁ .left))
+    pub empty-first : is-angle-close lists (kindAt row at₁) (now₁ .«pending_greater») ≡ true → (e : Fault) × (whole ≡ denied e (now₁ .left))
     unfolding next
     empty-first t = (
       no-list,
       arguments-denied no-list (now₁ .left) (turned-stops cpp row list lists nesting false at₁ half₁ (outer .way .within) (now₁ .left) no-list (sym (rw t))),
     )
 
-    module _ (open₁ : closes lists (kindAt row at₁) (now₁ .«pending_greater») ≡ false) where
+    module _ (open₁ : is-angle-close lists (kindAt row at₁) (now₁ .«pending_greater») ≡ false) where
       abbrev after-nodes : Limited → Limited
       after-nodes o = on-done o (λ x at′ half′ left′. argued-left cpp row (read cpp row) list lists nesting at₁ half₁ x (eqb (kindAt row at′) Comma) at′ half′ left′) (λ e left′. denied e left′)
 
@@ -185,8 +185,8 @@ module _ {cpp : Bool} {row : List ℕ} {lists nesting : ℕ} where
           turned cpp row list lists nesting false at₁ half₁ (outer .way .within) (now₁ .left) first (sym (rw open₁))
           ∙ limited-first cpp row (read cpp row) list lists nesting at₁ half₁ (now₁ .left)
 
-      module _ {tree : List ℕ} {now : TypeSyntaxParser} {word : Bool} {i : ℕ} (inv : NodesLoop cpp row lists nesting (node-width * m) tree₁ now₁ tree now word i) where
-        nodes-denied : (e : Fault) (left : ℕ) → rest-due cpp row lists nesting word now argument ≡ denied e left → whole ≡ denied e left
+      module _ {tree : List ℕ} {now : TypeSyntaxParser} {after-identifier : Bool} {i : ℕ} (inv : NodesLoop cpp row lists nesting (node-width * m) tree₁ now₁ tree now after-identifier i) where
+        nodes-denied : (e : Fault) (left : ℕ) → rest-due cpp row lists nesting after-identifier now argument ≡ denied e left → whole ≡ denied e left
         unfolding on-done
         nodes-denied e left q = arguments-denied e left (list-first ∙ ap after-nodes (reached-denied (inv .reached) e left q))
 
@@ -196,28 +196,28 @@ module _ {cpp : Bool} {row : List ℕ} {lists nesting : ℕ} where
         unfolding next
         unterminated f k = (
           no-list,
-          nodes-denied no-list (now .left) (turned-stops cpp row argument lists nesting word (now .cursor) (now .«pending_greater») (inv .way .within) (now .left) no-list (sym (rw (f, eq-eqb (kindAt row (now .cursor)) NoToken k)))),
+          nodes-denied no-list (now .left) (turned-stops cpp row argument lists nesting after-identifier (now .cursor) (now .«pending_greater») (inv .way .within) (now .left) no-list (sym (rw (f, eq-eqb (kindAt row (now .cursor)) NoToken k)))),
         )
 
         module _ (f : ends-at row lists now ≡ false) (k : kindAt row (now .cursor) ≢ NoToken) where
-          at-node : starts cpp word (kindAt row (now .cursor)) ≡ next cpp argument lists word (kindAt row (now .cursor)) (now .cursor) (now .«pending_greater»)
+          at-node : starts cpp after-identifier (kindAt row (now .cursor)) ≡ next cpp argument lists after-identifier (kindAt row (now .cursor)) (now .cursor) (now .«pending_greater»)
           unfolding next
           at-node = sym (rw (f, ne-eqb (kindAt row (now .cursor)) NoToken k))
 
-          nodes-stop : (s : Stop) → Denied (rest-due cpp row lists nesting false now₁ argument) s → (buf : List ℕ) → ListSays row (p .cursor) (whole) (listing-of (Stopped s)) buf
+          nodes-stop : (s : Stop) → Denied (rest-due cpp row lists nesting false now₁ argument) s → (buf : List ℕ) → ListSays row (p .cursor) (whole) (list-reading-of (Stopped s)) buf
           unfolding on-done
           nodes-stop (Refused e left) q buf = (refusal e, arguments-denied (refusal e) left (list-first ∙ ap after-nodes q))
           nodes-stop Spent q buf = downs ∙ reached-spent (outer .reached) (list-first ∙ ap after-nodes q)
 
           -- A node stops it.
-          pub list-node-stops : {q : CodeReading.Reading} {s : Stop} {r : Listing} {buf buf′ : List ℕ} → q ≡ Stopped s → NodeAnswers cpp row lists nesting word now q buf → r ≡ listing-of q
+          pub list-node-stops : {q : CodeReading.Reading} {s : Stop} {r : ListReading} {buf buf′ : List ℕ} → q ≡ Stopped s → NodeAnswers cpp row lists nesting after-identifier now q buf → r ≡ list-reading-of q
               → ListAnswers row (p .cursor) (whole) r buf′
           list-node-stops {s = s} {buf′ = buf′} e h l = record {
-            says = subst (λ (x : Listing). ListSays row (p .cursor) (whole) x buf′) (sym (l ∙ ap listing-of e)) (nodes-stop s (node-stop (inv .reached) (inv .way .within) at-node s (node-stopped e h)) buf′);
+            says = subst (λ (x : ListReading). ListSays row (p .cursor) (whole) x buf′) (sym (l ∙ ap list-reading-of e)) (nodes-stop s (node-stop (inv .reached) (inv .way .within) at-node s (node-stopped e h)) buf′);
           }
 
           -- One node more.
-          pub nodes-again : {kd : ℕ} → kd ≡ kindAt row (now .cursor) → {to : TypeSyntaxParser} {more : ℕ} (ys : List ℕ) → Found cpp row lists nesting word now to more ys
+          pub nodes-again : {kd : ℕ} → kd ≡ kindAt row (now .cursor) → {to : TypeSyntaxParser} {more : ℕ} (ys : List ℕ) → Found cpp row lists nesting after-identifier now to more ys
               → length ys ≡ length (lent (behind-nodes m i) tree)
               → behind-nodes m i ≤ length tree
               → NodesLoop cpp row lists nesting (node-width * m) tree₁ now₁
@@ -241,7 +241,7 @@ module _ {cpp : Bool} {row : List ℕ} {lists nesting : ℕ} where
           argument-done : rest-due cpp row lists nesting false now₁ argument ≡ done (inv .reached .nodes) (now .cursor) (now .«pending_greater») (now .left)
           unfolding next
           argument-done = reached-done (inv .reached) (now .cursor) (now .«pending_greater») (now .left)
-              (turned-ends cpp row argument lists nesting word (now .cursor) (now .«pending_greater») (inv .way .within) (now .left) (now .cursor) (sym (rw t)))
+              (turned-ends cpp row argument lists nesting after-identifier (now .cursor) (now .«pending_greater») (inv .way .within) (now .left) (now .cursor) (sym (rw t)))
 
           -- It is empty.
           pub argument-empty : i ≡ 0 → (e : Fault) × (whole ≡ denied e (now .left))
@@ -295,7 +295,7 @@ module _ {cpp : Bool} {row : List ℕ} {lists nesting : ℕ} where
                         (argument-is
                         ∙ ap argued-so (eq-eqb (kindAt row (now .cursor)) Comma k)
                         ∙ argued-comma cpp row lists nesting at₁ half₁ (now .cursor) (now .«pending_greater») (now .left) (inv .reached .nodes) (omega (arith, inv .reached .counted))
-                        ∙ ap (λ (x : ℕ). behind A-node at₁ (inv .reached .nodes) (limited (now .left) (read cpp row list lists nesting false x (now .«pending_greater»)))) s)
+                        ∙ ap (λ (x : ℕ). behind A-node at₁ (inv .reached .nodes) (reading-within (now .left) (read cpp row list lists nesting false x (now .«pending_greater»)))) s)
                         ∙ ahead-behind (outer .reached .nodes) A-node at₁ (inv .reached .nodes) _;
                     counted = argument-count;
                     written = argument-records;

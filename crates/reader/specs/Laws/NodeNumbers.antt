@@ -50,12 +50,12 @@ recorded (beside {k′ = k′} {i′ = i′} {b′ = b′} u) =
     (number k′ ∷ i′ ∷ suc (count b′) ∷ records b′ ++ r .0, r .1, simp length-append (omega (arith, r .2, three-each b′)), rw (r .3) (simp append-assoc))
 
 -- Number n of these records is a node of this kind, token and extent.
-pub record Says (records : List ℕ) (n k i extent : ℕ) : Type 0 where
+pub record RecordSays (records : List ℕ) (n k i extent : ℕ) : Type 0 where
   pub the-kind : kind-of records n ≡ k
   pub the-token : token-of records n ≡ i
   pub the-extent : extent-of records n ≡ extent
 
-pub said : {k : NodeKind} {i : ℕ} {b x : Nodes} (u : In k i b x) → Says (records x) (place u) (number k) i (suc (count b))
+pub said : {k : NodeKind} {i : ℕ} {b x : Nodes} (u : In k i b x) → RecordSays (records x) (place u) (number k) i (suc (count b))
 unfolding kind-of token-of extent-of
 said {k} {i} {b} {x} u =
     let r = recorded u in
@@ -90,7 +90,7 @@ numbered (node k i b x) (suc n) h =
     ]
 
 -- The records say of node n what it is in the tree.
-pub says : {x : Nodes} {n : ℕ} (v : Node x n) → Says (records x) n (number (v .the-kind)) (v .the-token) (suc (count (v .beneath)))
+pub says : {x : Nodes} {n : ℕ} (v : Node x n) → RecordSays (records x) n (number (v .the-kind)) (v .the-token) (suc (count (v .beneath)))
 says v = rw (v .placed) at (said (v .stands))
 
 -- The nodes whose number is within a node's extent stand below it.

@@ -12,8 +12,8 @@ use lib.Dec.{eqb}
 use Rattle.rows.specs.Notation.{if_then_else_}
 use Rattle.rows.specs.Kinds.{LeftParen, LeftBracket, Comma, Less, Greater, ShiftRight, NoToken}
 use Rattle.reader.specs.Nodes.{NodeKind, T-node, G-node, B-node, L-node, A-node, number, Nodes}
-use Rattle.reader.specs.Reading.{Level, got, kindAt, reading}
-use Rattle.reader.specs.Standing.{tokens-of, numbers-of}
+use Rattle.reader.specs.Reading.{Region, got, kindAt, reading}
+use Rattle.reader.specs.Standing.{tokens-of, tokens-of-kind}
 use Rattle.reader.specs.Laws.Tokens.{KindsKnown, taken}
 use Rattle.reader.specs.Laws.Derived.{Opens, parens, brackets, opener-kind, closer-kind, Closes, by-half, by-one, by-two, Read, end-row, end-group, end-argument, a-token, a-group, a-list, last, more, derived}
 use Rattle.reader.specs.Laws.Bounds.{nothing-left}
@@ -27,7 +27,7 @@ add-append true i l m = refl
 add-append false i l m = refl
 
 -- Two groups are of the same kind where their openers are.
-alike : {g k : NodeKind} {v₀ v : Level} {o₀ c₀ o c : ℕ} → Opens g v₀ o₀ c₀ → Opens k v o c → eqb (number g) (number k) ≡ eqb o₀ o
+alike : {g k : NodeKind} {v₀ v : Region} {o₀ c₀ o c : ℕ} → Opens g v₀ o₀ c₀ → Opens k v o c → eqb (number g) (number k) ≡ eqb o₀ o
 unfolding number
 alike parens parens = refl
 alike parens brackets = refl
@@ -35,7 +35,7 @@ alike brackets parens = refl
 alike brackets brackets = refl
 
 -- No other node is of a group's kind.
-apart : {g : NodeKind} {v : Level} {o c : ℕ} → Opens g v o c
+apart : {g : NodeKind} {v : Region} {o c : ℕ} → Opens g v o c
     → (eqb (number g) (number T-node) ≡ false) × (eqb (number g) (number L-node) ≡ false) × (eqb (number g) (number A-node) ≡ false)
 unfolding number
 apart parens = (refl, refl, refl)
@@ -45,23 +45,23 @@ apart brackets = (refl, refl, refl)
 Other : ℕ → Type 0
 Other k = (k ≢ LeftParen) × (k ≢ LeftBracket)
 
-other-token : {g : NodeKind} {v : Level} {o c : ℕ} → Opens g v o c → (k : ℕ) → Other k → eqb o k ≡ false
+other-token : {g : NodeKind} {v : Region} {o c : ℕ} → Opens g v o c → (k : ℕ) → Other k → eqb o k ≡ false
 unfolding Other
 other-token parens k q = ne-eqb LeftParen k (λ u. q .0 (sym u))
 other-token brackets k q = ne-eqb LeftBracket k (λ u. q .1 (sym u))
 
-other-closer : {g : NodeKind} {v : Level} {o c : ℕ} → Opens g v o c → Other c
+other-closer : {g : NodeKind} {v : Region} {o c : ℕ} → Opens g v o c → Other c
 unfolding Other
 other-closer parens = omega arith
 other-closer brackets = omega arith
 
-module _ (row : List ℕ) {g : NodeKind} {v₀ : Level} {o₀ c₀ : ℕ} (group : Opens g v₀ o₀ c₀) where
+module _ (row : List ℕ) {g : NodeKind} {v₀ : Region} {o₀ c₀ : ℕ} (group : Opens g v₀ o₀ c₀) where
   from : ℕ → List ℕ
-  from a = numbers-of o₀ a (drop a row)
+  from a = tokens-of-kind o₀ a (drop a row)
 
   at-opener : (a k : ℕ) → kindAt row a ≡ k → k ≢ NoToken → from a ≡ add (eqb o₀ k) a (from (suc a))
-  unfolding from numbers-of
-  at-opener a k e q = ap (numbers-of o₀ a) (taken row a (λ u. q (sym e ∙ u))) ∙ ap (λ (j : ℕ). add (eqb o₀ j) a (from (suc a))) e
+  unfolding from tokens-of-kind
+  at-opener a k e q = ap (tokens-of-kind o₀ a) (taken row a (λ u. q (sym e ∙ u))) ∙ ap (λ (j : ℕ). add (eqb o₀ j) a (from (suc a))) e
 
   at-other : (a k : ℕ) → kindAt row a ≡ k → k ≢ NoToken → Other k → from a ≡ from (suc a)
   at-other a k e q z = at-opener a k e q ∙ ap (λ (b : Bool). add b a (from (suc a))) (other-token group k z)
@@ -73,7 +73,7 @@ module _ (row : List ℕ) {g : NodeKind} {v₀ : Level} {o₀ c₀ : ℕ} (group
   at-shut {a = a} (by-two e two) = at-other a ShiftRight e (omega arith) (omega arith)
 
   -- The openers from where a level begins are those of its groups, and those from where it ends.
-  placed : {l : Level} {d n a a′ : ℕ} {h h′ : Bool} {x : Nodes} → Read row l d n a h x a′ h′ → from a ≡ tokens-of g x ++ from a′
+  placed : {l : Region} {d n a a′ : ℕ} {h h′ : Bool} {x : Nodes} → Read row l d n a h x a′ h′ → from a ≡ tokens-of g x ++ from a′
   unfolding tokens-of Other
   placed (end-row e) = refl
   placed (end-group {c = c} {a = a} op e) = at-other a c e (closer-kind op) (other-closer op)
@@ -86,14 +86,14 @@ module _ (row : List ℕ) {g : NodeKind} {v₀ : Level} {o₀ c₀ : ℕ} (group
   placed (more {a₁ = a} r e r₁) = rw (apart group .2) (simp (append-assoc, placed r, at-other a Comma e (omega arith) (omega arith), placed r₁))
 
 module _ (row : List ℕ) (known : KindsKnown row) (cpp : Bool) {x : Nodes} {a : ℕ} {h : Bool} {m : ℕ} (e : reading cpp row ≡ got x a h m) where
-  one-each : {g : NodeKind} {v : Level} {o c : ℕ} → Opens g v o c → tokens-of g x ≡ numbers-of o 0 row
-  unfolding from numbers-of
+  one-each : {g : NodeKind} {v : Region} {o c : ℕ} → Opens g v o c → tokens-of g x ≡ tokens-of-kind o 0 row
+  unfolding from tokens-of-kind
   one-each group =
       let end : length row ≤ a = omega (arith, nothing-left row cpp e known .0) in
       sym (rw (drop-of-length-le row end, append-nil) at (placed row group (derived row cpp e)))
 
-  pub one-G-each : tokens-of G-node x ≡ numbers-of LeftParen 0 row
+  pub one-G-each : tokens-of G-node x ≡ tokens-of-kind LeftParen 0 row
   one-G-each = one-each parens
 
-  pub one-B-each : tokens-of B-node x ≡ numbers-of LeftBracket 0 row
+  pub one-B-each : tokens-of B-node x ≡ tokens-of-kind LeftBracket 0 row
   one-B-each = one-each brackets

@@ -9,7 +9,7 @@ use lib.ListN.{length, take}
 use lib.Dec.{eqb}
 use Rattle.rows.specs.Kinds.{Identifier}
 use Rattle.reader.specs.Nodes.{Nodes, none, node, count, node-width, records}
-use Rattle.reader.specs.Reading.{Level, Fault, refusal, starts, next, kindAt}
+use Rattle.reader.specs.Reading.{Region, Fault, refusal, starts, next, kindAt}
 use Rattle.reader.specs.ReaderSays.{Denied, Found, node-due, rest-due}
 use Rattle.reader.specs.Laws.Loops.{_then_, then-count, then-records}
 use Rattle.reader.specs.Allowance.{Limited, done, denied, spent}
@@ -25,39 +25,39 @@ pub record Way (row : List ℕ) (at : ℕ) (now : TypeSyntaxParser) (m : ℕ) : 
   pub size : m + 2 * at ≤ 2 * now .cursor
 
 -- What is due is m nodes, whose numbers these are, before what is due of the rest.
-pub record Reached (cpp : Bool) (row : List ℕ) (l : Level) (lists nesting : ℕ) (o : Limited) (word : Bool) (now : TypeSyntaxParser) (m : ℕ) (numbers : List ℕ) : Type 0 where
+pub record Reached (cpp : Bool) (row : List ℕ) (l : Region) (lists nesting : ℕ) (o : Limited) (after-identifier : Bool) (now : TypeSyntaxParser) (m : ℕ) (numbers : List ℕ) : Type 0 where
   pub nodes : Nodes
-  pub is : o ≡ ahead nodes (rest-due cpp row lists nesting word now l)
+  pub is : o ≡ ahead nodes (rest-due cpp row lists nesting after-identifier now l)
   pub counted : count nodes ≡ m
   pub written : numbers ≡ records nodes
 
-module _ {cpp : Bool} {row : List ℕ} {l : Level} {lists nesting : ℕ} where
-  pub begun : {now : TypeSyntaxParser} {word : Bool} → Reached cpp row l lists nesting (rest-due cpp row lists nesting word now l) word now 0 []
+module _ {cpp : Bool} {row : List ℕ} {l : Region} {lists nesting : ℕ} where
+  pub begun : {now : TypeSyntaxParser} {after-identifier : Bool} → Reached cpp row l lists nesting (rest-due cpp row lists nesting after-identifier now l) after-identifier now 0 []
   unfolding count records
   begun = record { nodes = none; is = ahead-none _; counted = refl; written = refl }
 
-  module _ {o : Limited} {word : Bool} {now : TypeSyntaxParser} {m : ℕ} {numbers : List ℕ} (r : Reached cpp row l lists nesting o word now m numbers) where
+  module _ {o : Limited} {after-identifier : Bool} {now : TypeSyntaxParser} {m : ℕ} {numbers : List ℕ} (r : Reached cpp row l lists nesting o after-identifier now m numbers) where
     -- What is due of the rest is known.
-    pub reached-done : (at : ℕ) (half : Bool) (left : ℕ) → rest-due cpp row lists nesting word now l ≡ done none at half left → o ≡ done (r .nodes) at half left
+    pub reached-done : (at : ℕ) (half : Bool) (left : ℕ) → rest-due cpp row lists nesting after-identifier now l ≡ done none at half left → o ≡ done (r .nodes) at half left
     reached-done at half left e = r .is ∙ ap (ahead (r .nodes)) e ∙ ahead-done (r .nodes) none at half left ∙ ap (λ (x : Nodes). done x at half left) (then-none (r .nodes))
 
-    pub reached-denied : (e : Fault) (left : ℕ) → rest-due cpp row lists nesting word now l ≡ denied e left → o ≡ denied e left
+    pub reached-denied : (e : Fault) (left : ℕ) → rest-due cpp row lists nesting after-identifier now l ≡ denied e left → o ≡ denied e left
     reached-denied e left q = r .is ∙ ap (ahead (r .nodes)) q ∙ ahead-denied (r .nodes) e left
 
-    pub reached-spent : rest-due cpp row lists nesting word now l ≡ spent → o ≡ spent
+    pub reached-spent : rest-due cpp row lists nesting after-identifier now l ≡ spent → o ≡ spent
     reached-spent q = r .is ∙ ap (ahead (r .nodes)) q ∙ ahead-spent (r .nodes)
 
     -- Where a node begins.
-    module _ (i : now .cursor ≤ length row) (at-node : starts cpp word (kindAt row (now .cursor)) ≡ next cpp l lists word (kindAt row (now .cursor)) (now .cursor) (now .«pending_greater»)) where
-      at-turn : rest-due cpp row lists nesting word now l ≡ node-due cpp row lists nesting word now l
-      at-turn = turned cpp row l lists nesting word (now .cursor) (now .«pending_greater») i (now .left) _ at-node
+    module _ (i : now .cursor ≤ length row) (at-node : starts cpp after-identifier (kindAt row (now .cursor)) ≡ next cpp l lists after-identifier (kindAt row (now .cursor)) (now .cursor) (now .«pending_greater»)) where
+      at-turn : rest-due cpp row lists nesting after-identifier now l ≡ node-due cpp row lists nesting after-identifier now l
+      at-turn = turned cpp row l lists nesting after-identifier (now .cursor) (now .«pending_greater») i (now .left) _ at-node
 
-      pub node-stop : (s : Stop) → ((v : Level) → Denied (node-due cpp row lists nesting word now v) s) → Denied o s
+      pub node-stop : (s : Stop) → ((v : Region) → Denied (node-due cpp row lists nesting after-identifier now v) s) → Denied o s
       node-stop (Refused e left) q = reached-denied (refusal e) left (at-turn ∙ q l)
       node-stop Spent q = reached-spent (at-turn ∙ q l)
 
       -- One node more.
-      pub node-more : {to : TypeSyntaxParser} {more : ℕ} {buf : List ℕ} → Found cpp row lists nesting word now to more buf → {numbers′ : List ℕ}
+      pub node-more : {to : TypeSyntaxParser} {more : ℕ} {buf : List ℕ} → Found cpp row lists nesting after-identifier now to more buf → {numbers′ : List ℕ}
           → numbers′ ≡ numbers ++ take (node-width * more) buf
           → Reached cpp row l lists nesting o (eqb (kindAt row (now .cursor)) Identifier) to (m + more) numbers′
       unfolding count

@@ -11,7 +11,7 @@ use Rattle.rows.specs.Kinds.{LeftParen, RightParen, LeftBracket, RightBracket, 
 use Rattle.rows.specs.Laws.Tests.{by-if}
 use Rattle.rows.specs.declared.answer.TypeNameError.the-variants.{NestingLimitExceeded, UnterminatedGroup, MismatchedClosingDelimiter}
 use Rattle.reader.specs.Nodes.{NodeKind, T-node, L-node, Nodes, none}
-use Rattle.reader.specs.Reading.{Level, top, round, square, argument, list, Fault, refusal, Next, ends, stops, token, group, angle, first, Got, got, bad, case, before, kindAt, MAX-NESTING-DEPTH, closes, starts, next, Reader, down, go, turn, readF, read, reading}
+use Rattle.reader.specs.Reading.{Region, top, round, square, argument, list, Fault, refusal, Next, ends, stops, token, group, angle, first, Got, got, bad, case, before, kindAt, MAX-NESTING-DEPTH, is-angle-close, starts, next, Reader, down, go, turn, readF, read, reading}
 use Rattle.reader.specs.Laws.Tokens.{inside}
 use Rattle.reader.specs.Laws.Derived.{Opens, parens, brackets, nodal, Read, Sound, Allowed, next-allowed, down-sound, readF-sound}
 use Rattle.reader.specs.Laws.Bounds.{nodal-for-list, group-for-list, opener-inside, forwards, within}
@@ -24,24 +24,24 @@ pub data Refuses : Fault → Type 0 where
   wrong-closer : Refuses (refusal MismatchedClosingDelimiter)
 
 -- The levels that are no part of a list: there a fault ends the reading.
-abbrev plainly : Level → Bool
+abbrev plainly : Region → Bool
 plainly top = true
 plainly round = true
 plainly square = true
 plainly argument = false
 plainly list = false
 
-opens-plainly : {k : NodeKind} {v : Level} {o c : ℕ} → Opens k v o c → T (plainly v)
+opens-plainly : {k : NodeKind} {v : Region} {o c : ℕ} → Opens k v o c → T (plainly v)
 opens-plainly parens = tt
 opens-plainly brackets = tt
 
 -- What is not read at such a level has one of these faults.
-abbrev Named : Level → Got → Type 0
+abbrev Named : Region → Got → Type 0
 Named l (got x a h m) = Unit {0}
 Named l (bad e m) = T (plainly l) → Refuses e
 
 -- The same of what is to be done; and no argument begins there.
-abbrev Said : Level → Next → Type 0
+abbrev Said : Region → Next → Type 0
 Said l (ends a) = Unit {0}
 Said l (stops e) = T (plainly l) → Refuses e
 Said l (token w) = Unit {0}
@@ -49,20 +49,20 @@ Said l (group k v) = Unit {0}
 Said l angle = Unit {0}
 Said l first = T (plainly l) → ⊥
 
-named-before : (l : Level) (k : NodeKind) (i : ℕ) (b : Nodes) (m : ℕ) (g : Got) → Named l g → Named l (before k i b m g)
+named-before : (l : Region) (k : NodeKind) (i : ℕ) (b : Nodes) (m : ℕ) (g : Got) → Named l g → Named l (before k i b m g)
 unfolding before
 named-before l k i b m (got x a h m′) p = tt
 named-before l k i b m (bad e m′) p = p
 
 module _ (cpp : Bool) (row : List ℕ) where
-  starts-said : (l : Level) (w : Bool) (k : ℕ) → Said l (starts cpp w k)
+  starts-said : (l : Region) (w : Bool) (k : ℕ) → Said l (starts cpp w k)
   unfolding starts
   starts-said l w k =
       by-if (Said l) (eqb k LeftParen) (λ _. tt) λ _.
       by-if (Said l) (eqb k LeftBracket) (λ _. tt) λ _.
       by-if (Said l) (eqb k Less && cpp && w) (λ _. tt) (λ _. tt)
 
-  next-said : (l : Level) (d : ℕ) (w : Bool) (a : ℕ) (h : Bool) → Said l (next cpp l d w (kindAt row a) a h)
+  next-said : (l : Region) (d : ℕ) (w : Bool) (a : ℕ) (h : Bool) → Said l (next cpp l d w (kindAt row a) a h)
   unfolding next
   next-said top d w a h =
       by-if (Said top) (eqb (kindAt row a) NoToken) (λ _. tt) λ _.
@@ -76,26 +76,26 @@ module _ (cpp : Bool) (row : List ℕ) where
       by-if (Said square) (eqb (kindAt row a) RightBracket) (λ _. tt) λ _.
       by-if (Said square) (eqb (kindAt row a) RightParen) (λ _ _. wrong-closer) λ _. starts-said square w (kindAt row a)
   next-said argument d w a h =
-      by-if (Said argument) (closes d (kindAt row a) h || eqb (kindAt row a) Comma) (λ _. tt) λ _.
+      by-if (Said argument) (is-angle-close d (kindAt row a) h || eqb (kindAt row a) Comma) (λ _. tt) λ _.
       by-if (Said argument) (eqb (kindAt row a) NoToken) (λ _ t. absurd t) λ _. starts-said argument w (kindAt row a)
-  next-said list d w a h = by-if (Said list) (closes d (kindAt row a) h) (λ _ t. absurd t) (λ _ t. t)
+  next-said list d w a h = by-if (Said list) (is-angle-close d (kindAt row a) h) (λ _ t. absurd t) (λ _ t. t)
 
   -- A turn, given what holds of the reading with one fuel less.
-  module _ (r : Reader cpp row) (ok : (l : Level) (d n : ℕ) (w : Bool) (a : ℕ) (h : Bool) → Sound row l d n a h (r l d n w a h)) (fuel : ℕ)
-      (ih : (l : Level) (d n : ℕ) (w : Bool) (a : ℕ) (h : Bool) → Enough cpp row fuel l a → Named l (r l d n w a h)) where
-    down-named : (b : Bool) (l : Level) (d n a : ℕ) (h : Bool) → Enough cpp row fuel l a → Named l (down cpp row r b l d n a h)
+  module _ (r : Reader cpp row) (ok : (l : Region) (d n : ℕ) (w : Bool) (a : ℕ) (h : Bool) → Sound row l d n a h (r l d n w a h)) (fuel : ℕ)
+      (ih : (l : Region) (d n : ℕ) (w : Bool) (a : ℕ) (h : Bool) → Enough cpp row fuel l a → Named l (r l d n w a h)) where
+    down-named : (b : Bool) (l : Region) (d n a : ℕ) (h : Bool) → Enough cpp row fuel l a → Named l (down cpp row r b l d n a h)
     unfolding down
     down-named true l d n a h en = ih l d n false a h en
     down-named false l d n a h en = λ _. too-deep
 
-    named-case : {v : Level} {d n a : ℕ} {h : Bool} (P : Got → Type 0) (g : Got) → Sound row v d n a h g → Named v g
+    named-case : {v : Region} {d n a : ℕ} {h : Bool} (P : Got → Type 0) (g : Got) → Sound row v d n a h g → Named v g
         → (f : Nodes → ℕ → Bool → ℕ → Got) → ((x : Nodes) (a′ : ℕ) (h′ : Bool) (m : ℕ) → Read row v d n a h x a′ h′ → P (f x a′ h′ m))
         → (f′ : Fault → ℕ → Got) → ((e : Fault) (m : ℕ) → (T (plainly v) → Refuses e) → P (f′ e m)) → P (case g f f′)
     unfolding case
     named-case P (got x a′ h′ m) s nm f p f′ q = p x a′ h′ m s
     named-case P (bad e m) s nm f p f′ q = q e m nm
 
-    module _ (l : Level) (pl : T (plainly l)) (d n a : ℕ) (h : Bool) (en : Enough cpp row (suc fuel) l a) where
+    module _ (l : Region) (pl : T (plainly l)) (d n a : ℕ) (h : Bool) (en : Enough cpp row (suc fuel) l a) where
       rest : (t : T (nodal l)) (w : Bool) (a₁ : ℕ) (h₁ : Bool) → a < a₁ → a₁ ≤ length row → Named l (r l d n w a₁ h₁)
       rest t w a₁ h₁ p q = ih l d n w a₁ h₁ (omega arith)
 
@@ -120,11 +120,11 @@ module _ (cpp : Bool) (row : List ℕ) where
           _ (λ e m kn. named-before l T-node a none (suc m) (r l d n false (suc a) h) (rest (z .0) false (suc a) h (omega arith) i))
       go-named first z s = absurd (s pl)
 
-  by-level : (l : Level) (g : Got) → (T (plainly l) → Named l g) → Named l g
+  by-level : (l : Region) (g : Got) → (T (plainly l) → Named l g) → Named l g
   by-level l (got x a h m) f = tt
   by-level l (bad e m) f = λ t. f t t
 
-  named : (f : ℕ) (l : Level) (d n : ℕ) (w : Bool) (a : ℕ) (h : Bool) → Enough cpp row f l a → Named l (readF cpp row f l d n w a h)
+  named : (f : ℕ) (l : Region) (d n : ℕ) (w : Bool) (a : ℕ) (h : Bool) → Enough cpp row f l a → Named l (readF cpp row f l d n w a h)
   unfolding readF turn
   named zero l d n w a h en = absurd (omega arith)
   named (suc f) l d n w a h en =

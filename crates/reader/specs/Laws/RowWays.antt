@@ -12,8 +12,8 @@ use Rattle.rows.specs.declared.answer.TypeNameError.{TypeNameError}
 use Rattle.rows.specs.declared.answer.TypeNameError.the-variants.{UnexpectedTokenAfterTypeName}
 use Rattle.reader.specs.Nodes.{Nodes}
 use Rattle.reader.specs.Reading.{top, Fault, refusal, Got, got, bad, reading}
-use Rattle.reader.specs.ReaderSays.{Told, TreeRead, LeftOver, level-due}
-use Rattle.reader.specs.Allowance.{Limited, done, denied, spent, steps, settled, limited}
+use Rattle.reader.specs.ReaderSays.{Told, TreeRead, LeftOver, region-due}
+use Rattle.reader.specs.Allowance.{Limited, done, denied, spent, steps, settled, reading-within}
 use Rattle.reader.specs.Laws.Allowance.{allowed, passed}
 use Rattle.reader.specs.Laws.Ahead.{down-read}
 use Rattle.reader.specs.declared.parser.TypeSyntaxParser.{TypeSyntaxParser}
@@ -21,7 +21,7 @@ use Rattle.reader.specs.declared.parser.TypeSyntaxParser.{TypeSyntaxPars
 -- ---- from what came under an allowance back to the reading
 
 module _ (allowance : ℕ) where
-  pub done-got : (g : Got) {x : Nodes} {at : ℕ} {half : Bool} {left : ℕ} → limited allowance g ≡ done x at half left → (left ≤ allowance) × (g ≡ got x at half (allowance - left))
+  pub done-got : (g : Got) {x : Nodes} {at : ℕ} {half : Bool} {left : ℕ} → reading-within allowance g ≡ done x at half left → (left ≤ allowance) × (g ≡ got x at half (allowance - left))
   unfolding steps settled
   done-got (got y at′ half′ m) {x} {at} {half} {left} e =
       elim (decLe m allowance) [
@@ -38,7 +38,7 @@ module _ (allowance : ℕ) where
         | no p ↦ let q : spent ≡ done x at half left = sym (passed allowance (bad f m) (omega arith)) ∙ e in let z : _≡_ {A = ℕ} 0 1 = cc in absurd (omega arith)
       ]
 
-  pub denied-bad : (g : Got) {f : Fault} {left : ℕ} → limited allowance g ≡ denied f left → (left ≤ allowance) × (g ≡ bad f (allowance - left))
+  pub denied-bad : (g : Got) {f : Fault} {left : ℕ} → reading-within allowance g ≡ denied f left → (left ≤ allowance) × (g ≡ bad f (allowance - left))
   unfolding steps settled
   denied-bad (got y at′ half′ m) {f} {left} e =
       elim (decLe m allowance) [
@@ -60,18 +60,18 @@ module _ (allowance : ℕ) where
   settled-some (got y at half m) e = let z : _≡_ {A = ℕ} 0 1 = cc in absurd (omega arith)
   settled-some (bad f m) e = let z : _≡_ {A = ℕ} 0 1 = cc in absurd (omega arith)
 
-  pub spent-over : (g : Got) → limited allowance g ≡ spent → allowance < steps g
+  pub spent-over : (g : Got) → reading-within allowance g ≡ spent → allowance < steps g
   spent-over g e = elim (decLe (steps g) allowance) [ yes p ↦ absurd (settled-some g (sym (allowed allowance g p) ∙ e)) | no p ↦ omega arith ]
 
 -- ---- the whole row
 
 -- The first level is the whole reading.
 pub whole-due : (cpp : Bool) (row : List ℕ) {p : TypeSyntaxParser} {allowance : ℕ} → p .cursor ≡ 0 → p .«pending_greater» ≡ false → p .left ≡ allowance
-    → level-due cpp row top 0 0 p ≡ limited allowance (reading cpp row)
+    → region-due cpp row top 0 0 p ≡ reading-within allowance (reading cpp row)
 unfolding reading
 whole-due cpp row {p} a h l = down-read cpp row top 0 0 (p .left) (p .cursor) (p .«pending_greater») (omega arith) ∙ rw (a, h, l)
 
-module _ {o : Limited} (allowance : ℕ) (g : Got) (due : o ≡ limited allowance g) where
+module _ {o : Limited} (allowance : ℕ) (g : Got) (due : o ≡ reading-within allowance g) where
   module _ {row : List ℕ} {at : ℕ} {now : TypeSyntaxParser} {n : ℕ} {buf : List ℕ} (told : Told row at 0 o now n buf) where
     ended : (now .left ≤ allowance) × (g ≡ got (told .nodes) (now .cursor) (now .«pending_greater») (allowance - now .left))
     ended = done-got allowance g (sym due ∙ told .is)

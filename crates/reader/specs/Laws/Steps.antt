@@ -9,7 +9,7 @@ use lib.ListN.{length}
 use lib.Dec.{ltb, eqb}
 use Rattle.rows.specs.Kinds.{Comma}
 use Rattle.reader.specs.Nodes.{NodeKind, T-node, G-node, B-node, L-node, A-node, Nodes, none, node}
-use Rattle.reader.specs.Reading.{Level, top, argument, list, Fault, Next, ends, stops, token, group, angle, first, Got, got, bad, case, before, kindAt, MAX-NESTING-DEPTH, next, Reader, down, argued, go, turn, readF, read, reading}
+use Rattle.reader.specs.Reading.{Region, top, argument, list, Fault, Next, ends, stops, token, group, angle, first, Got, got, bad, case, before, kindAt, MAX-NESTING-DEPTH, next, Reader, down, argued, go, turn, readF, read, reading}
 
 -- A node is an entry to `parse_node`, an argument is none.
 abbrev entry : NodeKind → ℕ
@@ -49,13 +49,13 @@ paid-before k i b m (bad e m′) p q = tt
 
 module _ (cpp : Bool) (row : List ℕ) where
   -- A turn keeps it.
-  module _ (read : Reader cpp row) (ok : (l : Level) (d n : ℕ) (w : Bool) (a : ℕ) (h : Bool) → Paid (read l d n w a h)) where
-    paid-down : (b : Bool) (l : Level) (d n a : ℕ) (h : Bool) → Paid (down cpp row read b l d n a h)
+  module _ (read : Reader cpp row) (ok : (l : Region) (d n : ℕ) (w : Bool) (a : ℕ) (h : Bool) → Paid (read l d n w a h)) where
+    paid-down : (b : Bool) (l : Region) (d n a : ℕ) (h : Bool) → Paid (down cpp row read b l d n a h)
     unfolding down
     paid-down true l d n a h = ok l d n false a h
     paid-down false l d n a h = tt
 
-    paid-argued : (l : Level) (d n a : ℕ) (x : Nodes) (comma : Bool) (a₁ : ℕ) (h₁ : Bool) (m : ℕ) → entries x ≤ m
+    paid-argued : (l : Region) (d n a : ℕ) (x : Nodes) (comma : Bool) (a₁ : ℕ) (h₁ : Bool) (m : ℕ) → entries x ≤ m
         → Paid (argued cpp row read l d n a x comma a₁ h₁ m)
     unfolding argued entries
     paid-argued l d n a none comma a₁ h₁ m p = tt
@@ -64,7 +64,7 @@ module _ (cpp : Bool) (row : List ℕ) where
     paid-argued l d n a (node k i b y) false a₁ true m p = omega arith
     paid-argued l d n a (node k i b y) false a₁ false m p = omega arith
 
-    paid-go : (l : Level) (d n : ℕ) (nx : Next) (a : ℕ) (h : Bool) → Paid (go cpp row read l d n nx a h)
+    paid-go : (l : Region) (d n : ℕ) (nx : Next) (a : ℕ) (h : Bool) → Paid (go cpp row read l d n nx a h)
     unfolding go entries
     paid-go l d n (ends a′) a h = omega arith
     paid-go l d n (stops e) a h = tt
@@ -82,7 +82,7 @@ module _ (cpp : Bool) (row : List ℕ) where
         _ (λ x a₁ h₁ m p. paid-argued l d n a x (eqb (kindAt row a₁) Comma) a₁ h₁ m p)
         _ (λ e m. tt)
 
-  paid : (f : ℕ) (l : Level) (d n : ℕ) (w : Bool) (a : ℕ) (h : Bool) → Paid (readF cpp row f l d n w a h)
+  paid : (f : ℕ) (l : Region) (d n : ℕ) (w : Bool) (a : ℕ) (h : Bool) → Paid (readF cpp row f l d n w a h)
   unfolding readF turn
   paid zero l d n w a h = tt
   paid (suc f) l d n w a h = paid-go (readF cpp row f) (paid f) l d n (next cpp l d w (kindAt row a) a h) a h

@@ -15,7 +15,7 @@ use Rattle.rows.specs.declared.answer.Delimiter.{Delimiter}
 use Rattle.rows.specs.declared.answer.Delimiter.the-variants.{Parenthesis, Bracket}
 use Rattle.prescan.specs.Matcher.{Role, opens, closes, neither, role, same, Opener, Pair, Matcher, stopped, going, pop, meet, matcher, Paired}
 use Rattle.reader.specs.Nodes.{NodeKind, T-node, G-node, B-node, L-node, A-node, Nodes, none, node}
-use Rattle.reader.specs.Reading.{Level, top, got, kindAt, reading}
+use Rattle.reader.specs.Reading.{Region, top, got, kindAt, reading}
 use Rattle.reader.specs.Laws.Tokens.{KindsKnown, taken}
 use Rattle.reader.specs.Laws.Derived.{Opens, parens, brackets, opener-kind, closer-kind, Plain, Closes, by-half, by-one, by-two, Read, end-row, end-group, end-argument, a-token, a-group, a-list, last, more, derived}
 use Rattle.reader.specs.Laws.Bounds.{closer, group-closer, nothing-left}
@@ -75,16 +75,16 @@ even at (k ∷ ks) stack ps pairs e = even-role at ks pairs (λ stack ps e. even
 
 -- ---- what the matcher meets at a token
 
-abbrev pub delimiter-of : {k : NodeKind} {v : Level} {o c : ℕ} → Opens k v o c → Delimiter
+abbrev pub delimiter-of : {k : NodeKind} {v : Region} {o c : ℕ} → Opens k v o c → Delimiter
 delimiter-of parens = Parenthesis
 delimiter-of brackets = Bracket
 
-role-opener : {k : NodeKind} {v : Level} {o c : ℕ} (op : Opens k v o c) → role o ≡ opens (delimiter-of op)
+role-opener : {k : NodeKind} {v : Region} {o c : ℕ} (op : Opens k v o c) → role o ≡ opens (delimiter-of op)
 unfolding role
 role-opener parens = refl
 role-opener brackets = refl
 
-role-closer : {k : NodeKind} {v : Level} {o c : ℕ} (op : Opens k v o c) → role c ≡ closes (delimiter-of op)
+role-closer : {k : NodeKind} {v : Region} {o c : ℕ} (op : Opens k v o c) → role c ≡ closes (delimiter-of op)
 unfolding role
 role-closer parens = refl
 role-closer brackets = refl
@@ -112,10 +112,10 @@ module _ (row : List ℕ) where
   pub meets : (a k : ℕ) {r : Role} → kindAt row a ≡ k → k ≢ NoToken → role k ≡ r → Meets a r
   meets a k e q z = record { present = λ u. q (sym e ∙ u); in-role = ap role e ∙ z }
 
-  pub meets-opener : {k : NodeKind} {v : Level} {o c : ℕ} (op : Opens k v o c) (a : ℕ) → kindAt row a ≡ o → Meets a (opens (delimiter-of op))
+  pub meets-opener : {k : NodeKind} {v : Region} {o c : ℕ} (op : Opens k v o c) (a : ℕ) → kindAt row a ≡ o → Meets a (opens (delimiter-of op))
   meets-opener op a e = meets a _ e (opener-kind op) (role-opener op)
 
-  pub meets-closer : {k : NodeKind} {v : Level} {o c : ℕ} (op : Opens k v o c) (a : ℕ) → kindAt row a ≡ c → Meets a (closes (delimiter-of op))
+  pub meets-closer : {k : NodeKind} {v : Region} {o c : ℕ} (op : Opens k v o c) (a : ℕ) → kindAt row a ≡ c → Meets a (closes (delimiter-of op))
   meets-closer op a e = meets a _ e (closer-kind op) (role-closer op)
 
   -- What the token adds to both counts.
@@ -141,7 +141,7 @@ module _ (row : List ℕ) where
   strays none = 0
   strays (node k i b x) = stray k i + strays b + strays x
 
-  group-stray : {k : NodeKind} {v : Level} {o c : ℕ} → Opens k v o c → (i : ℕ) → stray k i ≡ 0
+  group-stray : {k : NodeKind} {v : Region} {o c : ℕ} → Opens k v o c → (i : ℕ) → stray k i ≡ 0
   unfolding stray
   group-stray parens i = refl
   group-stray brackets i = refl
@@ -154,7 +154,7 @@ module _ (row : List ℕ) where
   shut-count {a = a} (by-two e two) = omega (arith, counted (meets a ShiftRight e (omega arith) refl))
 
   -- The closers passed are the openers passed, the strays and the closer of the level.
-  stray-count : {l : Level} {d n a a′ : ℕ} {h h′ : Bool} {x : Nodes} → Read row l d n a h x a′ h′
+  stray-count : {l : Region} {d n a a′ : ℕ} {h h′ : Bool} {x : Nodes} → Read row l d n a h x a′ h′
       → closers (drop a row) + openers (drop a′ row) ≡ strays x + closer l + (openers (drop a row) + closers (drop a′ row))
   unfolding stray strays role
   stray-count (end-row e) = omega arith
@@ -174,7 +174,7 @@ module _ (row : List ℕ) where
   no-stray (beside u) z = no-stray u (omega arith)
   no-stray (below u) z = no-stray u (omega arith)
 
-  plain : {l : Level} {d n a a′ : ℕ} {h h′ : Bool} {x b : Nodes} {i : ℕ} → Read row l d n a h x a′ h′ → In T-node i b x → Plain (kindAt row i)
+  plain : {l : Region} {d n a a′ : ℕ} {h h′ : Bool} {x b : Nodes} {i : ℕ} → Read row l d n a h x a′ h′ → In T-node i b x → Plain (kindAt row i)
   plain (a-token t p r) here = p
   plain (a-token t p r) (beside u) = plain r u
   plain (a-group t lim op e r₁ r) here = elim op [ ]

@@ -13,9 +13,9 @@ use Rattle.rows.specs.Notation.{if_then_else_}
 use Rattle.rows.specs.Kinds.{Identifier, LeftParen, RightParen, LeftBracket, RightBracket, Comma, Less, Greater, ShiftRight, NoToken}
 use Rattle.rows.specs.Laws.Tests.{by-if}
 use Rattle.reader.specs.Nodes.{Nodes}
-use Rattle.reader.specs.Reading.{Level, top, round, square, argument, list, got, kindAt, reading}
-use Rattle.reader.specs.Written.{Token, sign, comma-before, written, halved, angles, without-angles}
-use Rattle.reader.specs.Standing.{numbers-of}
+use Rattle.reader.specs.Reading.{Region, top, round, square, argument, list, got, kindAt, reading}
+use Rattle.reader.specs.Written.{Token, sign, comma-before, written, halved, closing-angles, without-closing-angles}
+use Rattle.reader.specs.Standing.{tokens-of-kind}
 use Rattle.reader.specs.Laws.Tokens.{KindsKnown, inside}
 use Rattle.reader.specs.Laws.Derived.{neqb, parens, brackets, Closes, by-half, by-one, by-two, Read, end-row, end-group, end-argument, a-token, a-group, a-list, last, more, derived}
 use Rattle.reader.specs.Laws.Bounds.{nothing-left}
@@ -48,13 +48,13 @@ each-self (t ∷ l) = ap (λ (m : List Token). t ∷ m) (each-self l)
 
 -- What is left of a token, and how often it has `>`, each `>>` taken as two `>`.
 others : Token → List Token
-others t = without-angles (halved (t ∷ []))
+others t = without-closing-angles (halved (t ∷ []))
 
 weight : Token → ℕ
-weight t = angles (halved (t ∷ []))
+weight t = closing-angles (halved (t ∷ []))
 
-others-each : (l : List Token) → without-angles (halved l) ≡ each others l
-unfolding without-angles halved each others
+others-each : (l : List Token) → without-closing-angles (halved l) ≡ each others l
+unfolding without-closing-angles halved each others
 others-each [] = refl
 others-each (t ∷ l) = shifted (eqb (t .kind) ShiftRight) ∙ ap (λ (m : List Token). others t ++ m) (others-each l)
   where
@@ -62,13 +62,13 @@ others-each (t ∷ l) = shifted (eqb (t .kind) ShiftRight) ∙ ap (λ (m : List 
     kept true m = refl
     kept false m = refl
 
-    shifted : (b : Bool) → without-angles (if b then sign Greater ∷ sign Greater ∷ halved l else t ∷ halved l)
-        ≡ without-angles (if b then sign Greater ∷ sign Greater ∷ [] else t ∷ []) ++ without-angles (halved l)
+    shifted : (b : Bool) → without-closing-angles (if b then sign Greater ∷ sign Greater ∷ halved l else t ∷ halved l)
+        ≡ without-closing-angles (if b then sign Greater ∷ sign Greater ∷ [] else t ∷ []) ++ without-closing-angles (halved l)
     shifted true = refl
-    shifted false = kept (eqb (t .kind) Greater) (without-angles (halved l))
+    shifted false = kept (eqb (t .kind) Greater) (without-closing-angles (halved l))
 
-weight-sum : (l : List Token) → angles (halved l) ≡ sum weight l
-unfolding angles halved sum weight
+weight-sum : (l : List Token) → closing-angles (halved l) ≡ sum weight l
+unfolding closing-angles halved sum weight
 weight-sum [] = refl
 weight-sum (t ∷ l) = shifted (eqb (t .kind) ShiftRight) ∙ ap (λ (n : ℕ). weight t + n) (weight-sum l)
   where
@@ -76,17 +76,17 @@ weight-sum (t ∷ l) = shifted (eqb (t .kind) ShiftRight) ∙ ap (λ (n : ℕ). 
     one true n = omega arith
     one false n = omega arith
 
-    shifted : (b : Bool) → angles (if b then sign Greater ∷ sign Greater ∷ halved l else t ∷ halved l)
-        ≡ angles (if b then sign Greater ∷ sign Greater ∷ [] else t ∷ []) + angles (halved l)
+    shifted : (b : Bool) → closing-angles (if b then sign Greater ∷ sign Greater ∷ halved l else t ∷ halved l)
+        ≡ closing-angles (if b then sign Greater ∷ sign Greater ∷ [] else t ∷ []) + closing-angles (halved l)
     shifted true = omega arith
-    shifted false = one (eqb (t .kind) Greater) (angles (halved l))
+    shifted false = one (eqb (t .kind) Greater) (closing-angles (halved l))
 
 clash : {X : Type 0} {n : ℕ} {l : List ℕ} → n ∷ l ≡ [] → X
 clash e = let z : _≡_ {A = ℕ} 0 1 = cc in absurd (omega arith)
 
 -- A kind of which the row has no token.
-none-of : (k at : ℕ) (kinds : List ℕ) → numbers-of k at kinds ≡ [] → k ≢ NoToken → (i : ℕ) → kindAt kinds i ≢ k
-unfolding numbers-of kindAt
+none-of : (k at : ℕ) (kinds : List ℕ) → tokens-of-kind k at kinds ≡ [] → k ≢ NoToken → (i : ℕ) → kindAt kinds i ≢ k
+unfolding tokens-of-kind kindAt
 none-of k at [] e q i u = q (sym u)
 none-of k at (k′ ∷ ks) e q zero u = by-if (λ (l : List ℕ). l ≡ [] → ⊥) (eqb k k′) (λ _ e. clash e) (λ t e. neqb k k′ t (sym u)) e
 none-of k at (k′ ∷ ks) e q (suc i) u = by-if (λ (l : List ℕ). l ≡ [] → ⊥) (eqb k k′) (λ _ e. clash e) (λ t e. none-of k (suc at) ks e q i u) e
@@ -126,7 +126,7 @@ module _ (row : List Token) (worded : Worded row) where
   -- The row from where a level begins is the level written out, its closer, and the row from where it ends: each token replaced by a list, and by
   -- none at `>` and `>>` if the row has a `>>` at all.
   module _ (f : Token → List Token) (gone : (a : ℕ) → kindAt K a ≡ ShiftRight → (f (sign Greater) ≡ []) × (f (sign ShiftRight) ≡ [])) where
-    ending : Level → List Token
+    ending : Region → List Token
     ending top = []
     ending round = f (sign RightParen)
     ending square = f (sign RightBracket)
@@ -136,8 +136,8 @@ module _ (row : List Token) (worded : Worded row) where
     Fine : Bool → Type 0
     Fine h = h ≡ true → f (sign Greater) ≡ []
 
-    Says : Level → ℕ → Nodes → ℕ → Bool → Type 0
-    Says l a x a′ h′ = Fine h′ × (each f (drop a row) ≡ each f (written row x) ++ (ending l ++ each f (drop a′ row)))
+    Writes : Region → ℕ → Nodes → ℕ → Bool → Type 0
+    Writes l a x a′ h′ = Fine h′ × (each f (drop a row) ≡ each f (written row x) ++ (ending l ++ each f (drop a′ row)))
 
     shut : {d a a′ : ℕ} {h h′ : Bool} → Closes K d a h a′ h′ → Fine h → Fine h′ × (each f (drop a row) ≡ f (sign Greater) ++ each f (drop a′ row))
     unfolding Fine each
@@ -145,8 +145,8 @@ module _ (row : List Token) (worded : Worded row) where
     shut {a = a} (by-one e) q = (q, rw (take-sign a Greater e (omega arith) (omega arith)))
     shut {a = a} (by-two e two) q = (λ u. gone a e .0, rw (take-sign a ShiftRight e (omega arith) (omega arith)) (simp (gone a e .0, gone a e .1)))
 
-    says : {l : Level} {d n a a′ : ℕ} {h h′ : Bool} {x : Nodes} → Read K l d n a h x a′ h′ → Fine h → Says l a x a′ h′
-    unfolding Says Fine ending written comma-before each
+    says : {l : Region} {d n a a′ : ℕ} {h h′ : Bool} {x : Nodes} → Read K l d n a h x a′ h′ → Fine h → Writes l a x a′ h′
+    unfolding Writes Fine ending written comma-before each
     says (end-row e) q = (q, refl)
     says (end-group {a = a} parens e) q = (q, rw (take-sign a RightParen e (omega arith) (omega arith)))
     says (end-group {a = a} brackets e) q = (q, rw (take-sign a RightBracket e (omega arith) (omega arith)))
@@ -174,7 +174,7 @@ module _ (row : List Token) (worded : Worded row) where
     half-weight true = w (sign Greater)
     half-weight false = 0
 
-    ending-weight : Level → ℕ
+    ending-weight : Region → ℕ
     ending-weight top = 0
     ending-weight round = w (sign RightParen)
     ending-weight square = w (sign RightBracket)
@@ -192,7 +192,7 @@ module _ (row : List Token) (worded : Worded row) where
     shut-weighs {a = a} (by-one e) = omega (arith, weighed a Greater e (omega arith) (omega arith))
     shut-weighs {a = a} (by-two e two) = omega (arith, weighed a ShiftRight e (omega arith) (omega arith))
 
-    weighs : {l : Level} {d n a a′ : ℕ} {h h′ : Bool} {x : Nodes} → Read K l d n a h x a′ h′
+    weighs : {l : Region} {d n a a′ : ℕ} {h h′ : Bool} {x : Nodes} → Read K l d n a h x a′ h′
         → sum w (drop a row) + half-weight h ≡ sum w (written row x) + ending-weight l + (sum w (drop a′ row) + half-weight h′)
     unfolding written sum ending-weight half-weight
     weighs (end-row e) = omega arith
@@ -219,23 +219,23 @@ module _ (row : List Token) (worded : Worded row) where
 
     each-same : (f : Token → List Token) → ((i : ℕ) → kindAt K i ≡ ShiftRight → (f (sign Greater) ≡ []) × (f (sign ShiftRight) ≡ []))
         → each f (written row x) ≡ each f row
-    unfolding Says Fine ending each
+    unfolding Writes Fine ending each
     each-same f gone = sym (says f gone r (λ u. absurd (true≢false (sym u))) .1 ∙ rw at-end (append-nil _))
 
     weight-same : sum weight (written row x) ≡ sum weight row
-    unfolding sum half-weight ending-weight weight angles halved
+    unfolding sum half-weight ending-weight weight closing-angles halved
     weight-same = omega (arith, rw at-end at (weighs weight refl r), ap (half-weight weight refl) (nothing-left K cpp e known .1))
 
     -- They have `>` equally often,
-    pub angles-as-often : angles (halved (written row x)) ≡ angles (halved row)
-    angles-as-often = weight-sum (written row x) ∙ weight-same ∙ sym (weight-sum row)
+    pub closing-angles-as-often : closing-angles (halved (written row x)) ≡ closing-angles (halved row)
+    closing-angles-as-often = weight-sum (written row x) ∙ weight-same ∙ sym (weight-sum row)
 
     -- are the same list once every `>` is left out,
-    pub else-same : without-angles (halved (written row x)) ≡ without-angles (halved row)
-    unfolding others without-angles halved
+    pub else-same : without-closing-angles (halved (written row x)) ≡ without-closing-angles (halved row)
+    unfolding others without-closing-angles halved
     else-same = others-each (written row x) ∙ each-same others (λ i u. (refl, refl)) ∙ sym (others-each row)
 
     -- and are the same list throughout if the row has no `>>`.
-    pub same-throughout : numbers-of ShiftRight 0 K ≡ [] → written row x ≡ row
+    pub same-throughout : tokens-of-kind ShiftRight 0 K ≡ [] → written row x ≡ row
     same-throughout no-shift =
         sym (each-self (written row x)) ∙ each-same (λ t. t ∷ []) (λ i u. absurd (none-of ShiftRight 0 K no-shift (omega arith) i u)) ∙ each-self row

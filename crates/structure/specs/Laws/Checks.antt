@@ -14,13 +14,13 @@ use Rattle.structure.specs.Said.{Said, after, both, plain}
 use Rattle.structure.specs.Declarators.{TypeState, type-state, type-end, c-family-node, DeclaratorState, declarator-state, declarator-end, abstract-declarator-node}
 use Rattle.structure.specs.Expressions.{ExpressionState, expression-state, expression-end, expression-node}
 use Rattle.structure.specs.FortranTypes.{FortranState, fortran-state, fortran-end, fortran-node, validate-fortran-type-head}
-use Rattle.structure.specs.Structure.{a-type, an-expression, a-declarator, checked, turn, run, type-move, declarator-move, expression-move, fortran-move}
+use Rattle.structure.specs.Structure.{a-type, an-expression, a-declarator, checked, turn, loop, type-move, declarator-move, expression-move, fortran-move}
 use Rattle.structure.specs.Structure.{validate-c-family-type, validate-expression, validate-abstract-declarator, validate-fortran-type}
 use Rattle.structure.specs.Represented.{type-state-of, type-move-of, declarator-state-of, declarator-move-of, expression-state-of, expression-move-of}
 use Rattle.structure.specs.Represented.{fortran-state-of, fortran-move-of, Moves, Waits}
 use Rattle.structure.specs.Laws.Fixed.{fixed}
 use Rattle.structure.specs.Laws.Walks.{after-it}
-use Rattle.structure.specs.Laws.Runs.{Run}
+use Rattle.structure.specs.Laws.Loops.{Run}
 use Rattle.structure.specs.declared.moves.Inner.{Inner}
 use Rattle.structure.specs.declared.moves.TypeLoop.{TypeLoop}
 use Rattle.structure.specs.declared.moves.TypeMove.{TypeMove}
@@ -36,18 +36,18 @@ use Rattle.structure.specs.declared.moves.FortranMove.{FortranMove}
 
 module _ (lang : ℕ) (kinds words : List ℕ) where
   abbrev type-body : Nodes → Said
-  type-body x = run lang kinds words (checked lang kinds words) TypeState (type-move lang kinds words) type-end x NoNode no-word (type-state false false false)
+  type-body x = loop lang kinds words (checked lang kinds words) TypeState (type-move lang kinds words) type-end x NoNode no-word (type-state false false false)
 
   abbrev declarator-body : Nodes → Said
   declarator-body x =
-      run lang kinds words (checked lang kinds words) DeclaratorState (declarator-move lang kinds words) declarator-end x NoNode no-word (declarator-state false false)
+      loop lang kinds words (checked lang kinds words) DeclaratorState (declarator-move lang kinds words) declarator-end x NoNode no-word (declarator-state false false)
 
   abbrev expression-body : Nodes → Said
   expression-body x =
-      run lang kinds words (checked lang kinds words) ExpressionState (expression-move lang kinds words) expression-end x NoNode no-word (expression-state true false 0)
+      loop lang kinds words (checked lang kinds words) ExpressionState (expression-move lang kinds words) expression-end x NoNode no-word (expression-state true false 0)
 
   abbrev fortran-body : Nodes → Said
-  fortran-body x = run lang kinds words (checked lang kinds words) FortranState (fortran-move lang kinds words) fortran-end x NoNode no-word (fortran-state false false)
+  fortran-body x = loop lang kinds words (checked lang kinds words) FortranState (fortran-move lang kinds words) fortran-end x NoNode no-word (fortran-state false false)
 
   pub type-entry : (x : Nodes) → checked lang kinds words a-type x ≡ after 1 (both (plain (validate-c-decl-specifiers lang kinds words x)) (λ _. type-body x))
   unfolding turn validate-c-family-type

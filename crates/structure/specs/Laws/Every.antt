@@ -8,14 +8,14 @@ use native.Mathlib.Omega.{arith}
 use lib.ListN.{length}
 use Rattle.reader.specs.Nodes.{Nodes, none, node, count}
 use Rattle.type_nodes.specs.Shapes.{empty, next, split-on-commas, arguments-of}
-use Rattle.type_nodes.specs.Stands.{Stands, Formed, Ready, Of, below}
-use Rattle.type_nodes.specs.CommaParts.{first-part, from-comma}
+use Rattle.type_nodes.specs.Stands.{Stands, NodesStand, WordedNodes, Of, below}
+use Rattle.type_nodes.specs.Elements.{first-element, from-comma}
 use Rattle.type_nodes.specs.Laws.Siblings.{first, nothing-left, stands-count}
-use Rattle.type_nodes.specs.Laws.CommaParts.{others, split-first, others-next, others-none, part-stands, comma-stands}
+use Rattle.type_nodes.specs.Laws.Elements.{others, split-first, others-next, others-none, element-stands, comma-stands}
 use Rattle.structure.specs.Said.{Said, both, plain, every}
-use Rattle.structure.specs.Says.{Says}
+use Rattle.structure.specs.VerdictSays.{VerdictSays}
 use Rattle.structure.specs.Laws.Limits.{limited-yes}
-use Rattle.structure.specs.Laws.Walks.{Walk, Turn, walk-part, walk-ends, walk-on, after-it, below-it, walk-further}
+use Rattle.structure.specs.Laws.Walks.{Walk, Turn, walk-element, walk-ends, walk-on, after-it, below-it, walk-further}
 use Rattle.structure.specs.declared.moves.Verdict.the-variants.{Holds}
 
 every-end : (f : Nodes → Said) → every f [] ≡ plain true
@@ -36,8 +36,8 @@ unfolding arguments-of
 arguments-none x e = rw e
 
 module _ (f whole : Nodes → Said) (tree kinds : List ℕ) (from to allowed left : ℕ) where
-  abbrev pub InParts : (at : ℕ) → Type 0
-  InParts at = Walk tree kinds whole from to allowed left (λ y. every f (split-on-commas kinds y)) at
+  abbrev pub InElements : (at : ℕ) → Type 0
+  InElements at = Walk tree kinds whole from to allowed left (λ y. every f (split-on-commas kinds y)) at
 
   -- At the comma after a part, or at the end.
   abbrev pub AtComma : (at : ℕ) → Type 0
@@ -47,56 +47,56 @@ module _ (f whole : Nodes → Said) (tree kinds : List ℕ) (from to allowed lef
   InArguments at = Walk tree kinds whole from to allowed left (λ y. every f (arguments-of y)) at
 
 module _ (f : Nodes → Said) {whole : Nodes → Said} {tree kinds : List ℕ} {from to allowed left at : ℕ} where
-  module _ (lp : InParts f whole tree kinds from to allowed left at) {e : ℕ} (en : Of tree kinds at to (λ x. e ≡ at + count (first-part kinds x))) where
-    the-end : e ≡ at + count (first-part kinds (lp .rest))
+  module _ (lp : InElements f whole tree kinds from to allowed left at) {e : ℕ} (en : Of tree kinds at to (λ x. e ≡ at + count (first-element kinds x))) where
+    the-end : e ≡ at + count (first-element kinds (lp .rest))
     the-end = en (lp .rest) (lp .stands)
 
-    part-there : Stands tree kinds at e (first-part kinds (lp .rest))
-    part-there = subst (λ (m : ℕ). Stands tree kinds at m (first-part kinds (lp .rest))) (sym the-end) (part-stands (lp .stands))
+    element-there : Stands tree kinds at e (first-element kinds (lp .rest))
+    element-there = subst (λ (m : ℕ). Stands tree kinds at m (first-element kinds (lp .rest))) (sym the-end) (element-stands (lp .stands))
 
     comma-there : Stands tree kinds e to (from-comma kinds (lp .rest))
     comma-there = subst (λ (m : ℕ). Stands tree kinds m to (from-comma kinds (lp .rest))) (sym the-end) (comma-stands (lp .stands))
 
-    pub parts-past : at ≤ e
-    parts-past = omega (arith, the-end)
+    pub elements-past : at ≤ e
+    elements-past = omega (arith, the-end)
 
-    pub parts-fit : e ≤ to
-    parts-fit = omega (arith, stands-count comma-there)
+    pub elements-fit : e ≤ to
+    elements-fit = omega (arith, stands-count comma-there)
 
-    pub parts-ready : {words : List ℕ} → length words ≡ length kinds → Ready tree kinds words at e
-    parts-ready k = walk-part lp part-there parts-fit k
+    pub elements-ready : {words : List ℕ} → length words ≡ length kinds → WordedNodes tree kinds words at e
+    elements-ready k = walk-element lp element-there elements-fit k
 
-    pub parts-comma : Formed tree kinds e to
-    parts-comma = record { nodes = _; stands = comma-there; room = lp .room; few = lp .few }
+    pub elements-comma : NodesStand tree kinds e to
+    elements-comma = record { nodes = _; stands = comma-there; room = lp .room; few = lp .few }
 
-    pub parts-turn : Turn tree kinds (λ y. every f (split-on-commas kinds y)) f (λ y. every f (others kinds y)) to (lp .rest) at at e e
-    parts-turn = record {
-      part = _;
-      part-stands = part-there;
+    pub elements-turn : Turn tree kinds (λ y. every f (split-on-commas kinds y)) f (λ y. every f (others kinds y)) to (lp .rest) at at e e
+    elements-turn = record {
+      element = _;
+      element-stands = element-there;
       after = _;
       after-stands = comma-there;
-      further = parts-past;
+      further = elements-past;
       is = ap (every f) (split-first kinds (lp .rest)) ∙ every-one f _ _;
     }
 
   module _ (lp : AtComma f whole tree kinds from to allowed left at) where
-    pub parts-last : at ≡ to → Says tree kinds from to allowed whole (Holds left)
-    parts-last h =
+    pub elements-last : at ≡ to → VerdictSays tree kinds from to allowed whole (Holds left)
+    elements-last h =
         walk-ends lp true (ap (every f) (others-none kinds (lp .rest) (nothing-left (lp .stands) (omega arith))) ∙ every-end f) (sym (limited-yes left))
 
-    pub parts-next : {e : ℕ} → at < to → Of tree kinds at to (λ x. e ≡ suc (at + count (below x))) → InParts f whole tree kinds from to allowed left e
-    parts-next h en =
+    pub elements-next : {e : ℕ} → at < to → Of tree kinds at to (λ x. e ≡ suc (at + count (below x))) → InElements f whole tree kinds from to allowed left e
+    elements-next h en =
         walk-on lp _ (ap (every f) (others-next kinds (lp .rest) (first (lp .stands) h .full))) (after-it lp h en) (omega (arith, walk-further lp h en))
 
   module _ (lp : InArguments f whole tree kinds from to allowed left at) where
-    pub arguments-end : to ≤ at → Says tree kinds from to allowed whole (Holds left)
+    pub arguments-end : to ≤ at → VerdictSays tree kinds from to allowed whole (Holds left)
     arguments-end h = walk-ends lp true (ap (every f) (arguments-none (lp .rest) (nothing-left (lp .stands) h)) ∙ every-end f) (sym (limited-yes left))
 
     pub arguments-turn : {e : ℕ} → at < to → Of tree kinds at to (λ x. e ≡ suc (at + count (below x)))
         → Turn tree kinds (λ y. every f (arguments-of y)) f (λ y. every f (arguments-of y)) to (lp .rest) at (at + 1) e e
     arguments-turn h en = record {
-      part = _;
-      part-stands = below-it lp h en;
+      element = _;
+      element-stands = below-it lp h en;
       after = _;
       after-stands = after-it lp h en;
       further = omega (arith, walk-further lp h en);

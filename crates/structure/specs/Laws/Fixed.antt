@@ -9,13 +9,13 @@ use lib.Dec.{eqb}
 use Rattle.rows.specs.Notation.{if_then_else_}
 use Rattle.rows.specs.Kinds.{Comma}
 use Rattle.reader.specs.Nodes.{NodeKind, Nodes, none, node, count}
-use Rattle.type_nodes.specs.Shapes.{empty, next, arguments-of, prepend, parts-are-full, shape, node-identifier, is-single-token, is-ellipsis, split-on-commas}
+use Rattle.type_nodes.specs.Shapes.{empty, next, arguments-of, prepend, elements-are-full, shape, node-identifier, is-single-token, is-ellipsis, split-on-commas}
 use Rattle.type_nodes.specs.Moves.{Test, expression, some-expression, optional-expression, array-bound, type-name, type-or-expression, declarator, arguments, selectors, declarator-or-parameters, Move, stop, on, inside}
 use Rattle.type_nodes.specs.AbstractDeclarators.{looks-like-abstract-declarator}
 use Rattle.structure.specs.Said.{Said, holds, fails, after, both, either, plain, every}
 use Rattle.structure.specs.Declarators.{TypeState, type-end, DeclaratorState, declarator-end}
 use Rattle.structure.specs.Expressions.{ExpressionState, expression-end}
-use Rattle.structure.specs.Structure.{Job, a-type, an-expression, a-declarator, validate-cpp-template-argument, validate-parameter, validate-parameter-type-list, validate-fortran-selector-value, validate-fortran-selector, validate-fortran-selector-list, test, follow, run, validate-c-family-type, validate-abstract-declarator, validate-expression, turn, checkF, checked}
+use Rattle.structure.specs.Structure.{Job, a-type, an-expression, a-declarator, validate-cpp-template-argument, validate-parameter, validate-parameter-type-list, validate-fortran-selector-value, validate-fortran-selector, validate-fortran-selector-list, test, follow, loop, validate-c-family-type, validate-abstract-declarator, validate-expression, turn, checkF, checked}
 
 both-same : (a a′ : Said) (f g : Bool → Said) → a ≡ a′ → ((t : Bool) → f t ≡ g t) → both a f ≡ both a′ g
 unfolding both
@@ -56,11 +56,11 @@ module _ (lang : ℕ) (kinds words : List ℕ) where
   by-Comma n true xs ys p q = p
   by-Comma n false xs ys p q = q
 
-  parts-fewer : (x : Nodes) → Fewer (suc (count x)) (split-on-commas kinds x)
+  elements-fewer : (x : Nodes) → Fewer (suc (count x)) (split-on-commas kinds x)
   unfolding split-on-commas count
-  parts-fewer none = (omega arith, tt)
-  parts-fewer (node k i b x) =
-      let p = parts-fewer x in
+  elements-fewer none = (omega arith, tt)
+  elements-fewer (node k i b x) =
+      let p = elements-fewer x in
       by-Comma (suc (suc (count b + count x))) (eqb (shape kinds (node k i b x)) Comma) _ _
       (omega arith, fewer-more (suc (count x)) (suc (suc (count b + count x))) (omega arith) (split-on-commas kinds x) p)
       (fewer-more (suc (count b + suc (count x))) (suc (suc (count b + count x))) (omega arith) (prepend k i b (split-on-commas kinds x)) (joined-fewer (suc (count x)) k i b (split-on-commas kinds x) p))
@@ -79,7 +79,7 @@ module _ (lang : ℕ) (kinds words : List ℕ) where
     unfolding validate-parameter-type-list
     parameters-same x h =
         either-same _ _ _ _ refl (λ t. both-same _ _ _ _ refl
-        (λ t. every-same n _ _ parameter-same _ (fewer-more (suc (count x)) n (omega arith) (split-on-commas kinds x) (parts-fewer x))))
+        (λ t. every-same n _ _ parameter-same _ (fewer-more (suc (count x)) n (omega arith) (split-on-commas kinds x) (elements-fewer x))))
 
     value-same : (x : Nodes) → count x < n → validate-fortran-selector-value lang kinds words r x ≡ validate-fortran-selector-value lang kinds words s x
     unfolding validate-fortran-selector-value
@@ -97,7 +97,7 @@ module _ (lang : ℕ) (kinds words : List ℕ) where
     selectors-same : (x : Nodes) → count x < n → validate-fortran-selector-list lang kinds words r x ≡ validate-fortran-selector-list lang kinds words s x
     unfolding validate-fortran-selector-list
     selectors-same x h =
-        both-same _ _ _ _ refl (λ t. every-same n _ _ selector-same _ (fewer-more (suc (count x)) n (omega arith) (split-on-commas kinds x) (parts-fewer x)))
+        both-same _ _ _ _ refl (λ t. every-same n _ _ selector-same _ (fewer-more (suc (count x)) n (omega arith) (split-on-commas kinds x) (elements-fewer x)))
 
     looks-same : (t : Bool) (a a′ b b′ : Said) → a ≡ a′ → b ≡ b′ → _≡_ {A = Said} (elim t as (λ _. Said) [ true ↦ a | false ↦ b ]) (elim t as (λ _. Said) [ true ↦ a′ | false ↦ b′ ])
     looks-same true a a′ b b′ p q = p
@@ -126,8 +126,8 @@ module _ (lang : ℕ) (kinds words : List ℕ) where
       follow-same (on st) b f g h e = e st
       follow-same (inside t st) b f g h e = both-same _ _ _ _ (test-same t b h) (λ _. e st)
 
-      run-same : (x : Nodes) (left lw : ℕ) (st : S) → count x ≤ n → run lang kinds words r S move done x left lw st ≡ run lang kinds words s S move done x left lw st
-      unfolding run count
+      run-same : (x : Nodes) (left lw : ℕ) (st : S) → count x ≤ n → loop lang kinds words r S move done x left lw st ≡ loop lang kinds words s S move done x left lw st
+      unfolding loop count
       run-same none left lw st h = refl
       run-same (node k i b x) left lw st h =
           follow-same (move left lw (node k i b x) st) b _ _ (omega arith)

@@ -7,7 +7,7 @@ use native.Mathlib.Omega.{arith}
 use Rattle.rows.specs.Words.{ignoring-case}
 use Rattle.reader.specs.Nodes.{Nodes, none, node, count}
 use Rattle.type_nodes.specs.Shapes.{next, shape, node-identifier}
-use Rattle.type_nodes.specs.Stands.{Stands, Formed, Ready, Of, Finds, below}
+use Rattle.type_nodes.specs.Stands.{Stands, NodesStand, WordedNodes, Of, Finds, below}
 use Rattle.type_nodes.specs.Laws.Siblings.{first, there, found-there}
 use Rattle.type_nodes.specs.declared.nodes.Lookup.{Lookup}
 use Rattle.type_nodes.specs.declared.nodes.Lookup.the-variants.{Node, Nothing}
@@ -22,7 +22,7 @@ module _ {tree kinds : List ℕ} {at to m t n : ℕ} where
   pub after-found : (x : Nodes) → Stands tree kinds at to x → Finds kinds at (Node m t n) x → Stands tree kinds n to (next x)
   after-found x s f = subst (λ (u : ℕ). Stands tree kinds u to (next x)) (sym (f .3)) (first s (there s (f .0)) .rest)
 
-  pub formed-after : (f : Formed tree kinds at to) → Finds kinds at (Node m t n) (f .nodes) → Formed tree kinds n to
+  pub formed-after : (f : NodesStand tree kinds at to) → Finds kinds at (Node m t n) (f .nodes) → NodesStand tree kinds n to
   formed-after f g = record { nodes = next (f .nodes); stands = after-found (f .nodes) (f .stands) g; room = f .room; few = f .few }
 
 pub head-there : (kinds words : List ℕ) (x : Nodes) {s w r v a b : ℕ} {h : Bool} → h ≡ fortran-head s w r v → s ≡ shape kinds x → w ≡ ignoring-case a

@@ -7,7 +7,7 @@ use mathlib.Core.List.{List}
 use borrow.Author.Tests.{eq-eqb, ne-eqb}
 use Rattle.rows.specs.Kinds.{Identifier, Equal, Star, Colon}
 use Rattle.reader.specs.Nodes.{Nodes, count}
-use Rattle.type_nodes.specs.Shapes.{empty, next, shape, is-single-token, split-on-commas, parts-are-full}
+use Rattle.type_nodes.specs.Shapes.{empty, next, shape, is-single-token, split-on-commas, elements-are-full}
 use Rattle.type_nodes.specs.Moves.{declarator, declarator-or-parameters}
 use Rattle.type_nodes.specs.AbstractDeclarators.{looks-like-abstract-declarator}
 use Rattle.type_nodes.specs.Stands.{Stands, ends, here, Of, below}
@@ -17,8 +17,8 @@ use Rattle.structure.specs.Said.{Said, both, either, plain, every}
 use Rattle.structure.specs.Structure.{a-declarator, checked, test, validate-parameter-type-list}
 use Rattle.structure.specs.Structure.{validate-parameter, validate-fortran-selector, validate-fortran-selector-value, validate-fortran-selector-list}
 use Rattle.structure.specs.Represented.{test-of}
-use Rattle.structure.specs.Allowance.{limited}
-use Rattle.structure.specs.Says.{Says, Answers, Passes}
+use Rattle.structure.specs.Allowance.{verdict-within}
+use Rattle.structure.specs.VerdictSays.{VerdictSays, Answers, Passes}
 use Rattle.structure.specs.Laws.Limits.{on-holds, on-fails, Settles, limited-both, limited-either, limited-yes, limited-no}
 use Rattle.structure.specs.declared.moves.Verdict.{Verdict}
 use Rattle.structure.specs.declared.moves.Verdict.the-variants.{Holds, Fails}
@@ -26,11 +26,11 @@ use Rattle.structure.specs.declared.moves.Inner.{Inner}
 
 -- ---- a test without steps, and a check
 
-plain-both : (left : ℕ) (g : Bool → Said) → limited left (both (plain true) g) ≡ limited left (g true)
+plain-both : (left : ℕ) (g : Bool → Said) → verdict-within left (both (plain true) g) ≡ verdict-within left (g true)
 unfolding on-holds
 plain-both left g = limited-both left (plain true) g ∙ rw (limited-yes left)
 
-plain-either : (left : ℕ) (g : Bool → Said) → limited left (either (plain false) g) ≡ limited left (g false)
+plain-either : (left : ℕ) (g : Bool → Said) → verdict-within left (either (plain false) g) ≡ verdict-within left (g false)
 unfolding on-fails
 plain-either left g = limited-either left (plain false) g ∙ rw (limited-no left)
 
@@ -60,43 +60,43 @@ module _ {tree kinds : List ℕ} {from to : ℕ} where
       → (p || q) ≡ b → Of tree kinds from to (λ x. b ≡ (is-single-token kinds Star x || is-single-token kinds Colon x))
   value-of o u e x s = sym (rw (← o x s, ← u x s) e)
 
-  pub no-list : from ≡ to → Of tree kinds from to (λ x. false ≡ (not (empty x) && parts-are-full (split-on-commas kinds x)))
+  pub no-list : from ≡ to → Of tree kinds from to (λ x. false ≡ (not (empty x) && elements-are-full (split-on-commas kinds x)))
   no-list e x s = sym (rw (empty-range s e))
 
-  pub list-of : {r b : Bool} → (from ≡ to → ⊥) → Of tree kinds from to (λ x. r ≡ parts-are-full (split-on-commas kinds x)) → r ≡ b
-      → Of tree kinds from to (λ x. b ≡ (not (empty x) && parts-are-full (split-on-commas kinds x)))
+  pub list-of : {r b : Bool} → (from ≡ to → ⊥) → Of tree kinds from to (λ x. r ≡ elements-are-full (split-on-commas kinds x)) → r ≡ b
+      → Of tree kinds from to (λ x. b ≡ (not (empty x) && elements-are-full (split-on-commas kinds x)))
   list-of h o e x s = sym (rw (← full-of h x s, ← o x s, e))
 
 module _ {tree kinds : List ℕ} {from to left : ℕ} {what : Nodes → Said} where
   -- The same check by another name.
-  pub by-name : (other : Nodes → Said) {v : Verdict} → ((x : Nodes) → what x ≡ other x) → Says tree kinds from to left other v → Says tree kinds from to left what v
-  by-name other e w = record { says = λ x s. w .says x s ∙ ap (limited left) (sym (e x)) }
+  pub by-name : (other : Nodes → Said) {v : Verdict} → ((x : Nodes) → what x ≡ other x) → VerdictSays tree kinds from to left other v → VerdictSays tree kinds from to left what v
+  by-name other e w = record { says = λ x s. w .says x s ∙ ap (verdict-within left) (sym (e x)) }
 
   module _ (b : Nodes → Bool) (g : Nodes → Said) (e : (x : Nodes) → what x ≡ either (plain (b x)) (λ _. g x)) where
-    pub either-held : Of tree kinds from to (λ x. true ≡ b x) → Says tree kinds from to left what (Holds left)
+    pub either-held : Of tree kinds from to (λ x. true ≡ b x) → VerdictSays tree kinds from to left what (Holds left)
     unfolding on-fails
     either-held o = record { says = λ x s. sym (rw (e x, ← o x s) (limited-either left _ _ ∙ rw (limited-yes left))) }
 
-    pub either-else : {v : Verdict} → Of tree kinds from to (λ x. false ≡ b x) → Says tree kinds from to left g v → Says tree kinds from to left what v
+    pub either-else : {v : Verdict} → Of tree kinds from to (λ x. false ≡ b x) → VerdictSays tree kinds from to left g v → VerdictSays tree kinds from to left what v
     either-else o w = record { says = λ x s. w .says x s ∙ sym (rw (e x, ← o x s) (plain-either left _)) }
 
   module _ (b : Nodes → Bool) (g : Nodes → Said) (e : (x : Nodes) → what x ≡ both (plain (b x)) (λ _. g x)) where
-    pub both-failed : Of tree kinds from to (λ x. false ≡ b x) → Says tree kinds from to left what (Fails left)
+    pub both-failed : Of tree kinds from to (λ x. false ≡ b x) → VerdictSays tree kinds from to left what (Fails left)
     unfolding on-holds
     both-failed o = record { says = λ x s. sym (rw (e x, ← o x s) (limited-both left _ _ ∙ rw (limited-no left))) }
 
-    pub both-then : {v : Verdict} → Of tree kinds from to (λ x. true ≡ b x) → Says tree kinds from to left g v → Says tree kinds from to left what v
+    pub both-then : {v : Verdict} → Of tree kinds from to (λ x. true ≡ b x) → VerdictSays tree kinds from to left g v → VerdictSays tree kinds from to left what v
     both-then o w = record { says = λ x s. w .says x s ∙ sym (rw (e x, ← o x s) (plain-both left _)) }
 
   -- A check, and another where it fails.
-  module _ {f : Nodes → Said} {v : Verdict} (g : Nodes → Said) (e : (x : Nodes) → what x ≡ either (f x) (λ _. g x)) (sv : Says tree kinds from to left f v) where
-    tried : (x : Nodes) → Stands tree kinds from to x → limited left (what x) ≡ on-fails v (λ l. limited l (g x))
+  module _ {f : Nodes → Said} {v : Verdict} (g : Nodes → Said) (e : (x : Nodes) → what x ≡ either (f x) (λ _. g x)) (sv : VerdictSays tree kinds from to left f v) where
+    tried : (x : Nodes) → Stands tree kinds from to x → verdict-within left (what x) ≡ on-fails v (λ l. verdict-within l (g x))
     tried x s = rw (e x) (limited-either left _ _ ∙ rw (← sv .says x s))
 
-    pub first-settles : Settles v → Says tree kinds from to left what v
+    pub first-settles : Settles v → VerdictSays tree kinds from to left what v
     first-settles q = record { says = λ x s. sym (tried x s ∙ q .settles _) }
 
-    pub then-second : {l : ℕ} {u : Verdict} → v ≡ Fails l → Says tree kinds from to l g u → Says tree kinds from to left what u
+    pub then-second : {l : ℕ} {u : Verdict} → v ≡ Fails l → VerdictSays tree kinds from to l g u → VerdictSays tree kinds from to left what u
     unfolding on-fails
     then-second q w = record { says = λ x s. w .says x s ∙ sym (tried x s ∙ rw q) }
 
@@ -113,7 +113,7 @@ module _ (lang : ℕ) {tree kinds : List ℕ} (words : List ℕ) {from to : ℕ}
   pub told : {left : ℕ} {t u : Inner} {v : Verdict} → t ≡ u → Passes lang tree kinds words from to left (test-of u) v → Passes lang tree kinds words from to left (test-of t) v
   told {left} {v = v} e w = subst (λ (i : Inner). Passes lang tree kinds words from to left (test-of i) v) (sym e) w
 
-  pub inside-declarator : {left : ℕ} {v : Verdict} → Says tree kinds from to left (checked lang kinds words a-declarator) v → Passes lang tree kinds words from to left declarator v
+  pub inside-declarator : {left : ℕ} {v : Verdict} → VerdictSays tree kinds from to left (checked lang kinds words a-declarator) v → Passes lang tree kinds words from to left declarator v
   unfolding test
   inside-declarator w = record { says = w .says }
 
@@ -123,14 +123,14 @@ module _ (lang : ℕ) {tree kinds : List ℕ} (words : List ℕ) {from to : ℕ}
     unfolding test
     looks b e x s = ap (λ (t : Bool). by-looks lang kinds words word t x) (sym (o x s) ∙ e)
 
-    pub group-declarator : {left : ℕ} {v : Verdict} → r ≡ true → Says tree kinds from to left (checked lang kinds words a-declarator) v
+    pub group-declarator : {left : ℕ} {v : Verdict} → r ≡ true → VerdictSays tree kinds from to left (checked lang kinds words a-declarator) v
         → Passes lang tree kinds words from to left (declarator-or-parameters word) v
-    group-declarator {left} e w = record { says = λ x s. w .says x s ∙ ap (limited left) (sym (looks true e x s)) }
+    group-declarator {left} e w = record { says = λ x s. w .says x s ∙ ap (verdict-within left) (sym (looks true e x s)) }
 
     pub group-parameters : {left : ℕ} {v : Verdict} → r ≡ false
-        → Says tree kinds from to left (λ x. both (plain word) (λ _. validate-parameter-type-list lang kinds words (checked lang kinds words) x)) v
+        → VerdictSays tree kinds from to left (λ x. both (plain word) (λ _. validate-parameter-type-list lang kinds words (checked lang kinds words) x)) v
         → Passes lang tree kinds words from to left (declarator-or-parameters word) v
-    group-parameters {left} e w = record { says = λ x s. w .says x s ∙ ap (limited left) (sym (looks false e x s)) }
+    group-parameters {left} e w = record { says = λ x s. w .says x s ∙ ap (verdict-within left) (sym (looks false e x s)) }
 
   -- ---- a selector: a keyword and `=` first, or not
 
@@ -167,13 +167,13 @@ module _ (lang : ℕ) {tree kinds : List ℕ} (words : List ℕ) {from to : ℕ}
 
   -- ---- the lists: once no part is empty, every part is checked
 
-  module _ (h : from ≡ to → ⊥) {r : Bool} (o : Of tree kinds from to (λ x. r ≡ parts-are-full (split-on-commas kinds x))) (e : r ≡ true) (left : ℕ) where
-    pub parameters-start : (x : Nodes) → Stands tree kinds from to x → limited left (validate-parameter-type-list lang kinds words (checked lang kinds words) x)
-        ≡ limited left (every (validate-parameter lang kinds words (checked lang kinds words)) (split-on-commas kinds x))
+  module _ (h : from ≡ to → ⊥) {r : Bool} (o : Of tree kinds from to (λ x. r ≡ elements-are-full (split-on-commas kinds x))) (e : r ≡ true) (left : ℕ) where
+    pub parameters-start : (x : Nodes) → Stands tree kinds from to x → verdict-within left (validate-parameter-type-list lang kinds words (checked lang kinds words) x)
+        ≡ verdict-within left (every (validate-parameter lang kinds words (checked lang kinds words)) (split-on-commas kinds x))
     unfolding validate-parameter-type-list
     parameters-start x s = rw (← full-of h x s, ← o x s, e) (plain-either left _ ∙ plain-both left _)
 
-    pub selectors-start : (x : Nodes) → Stands tree kinds from to x → limited left (validate-fortran-selector-list lang kinds words (checked lang kinds words) x)
-        ≡ limited left (every (validate-fortran-selector lang kinds words (checked lang kinds words)) (split-on-commas kinds x))
+    pub selectors-start : (x : Nodes) → Stands tree kinds from to x → verdict-within left (validate-fortran-selector-list lang kinds words (checked lang kinds words) x)
+        ≡ verdict-within left (every (validate-fortran-selector lang kinds words (checked lang kinds words)) (split-on-commas kinds x))
     unfolding validate-fortran-selector-list
     selectors-start x s = rw (← list-of h o e x s) (plain-both left _)

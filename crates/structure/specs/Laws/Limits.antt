@@ -11,7 +11,7 @@ use lib.Dec.{leb}
 use borrow.Author.Tests.{le-leb, lt-leb}
 use Rattle.rows.specs.Notation.{if_then_else_}
 use Rattle.structure.specs.Said.{Said, holds, fails, after, both, either, plain}
-use Rattle.structure.specs.Allowance.{limited}
+use Rattle.structure.specs.Allowance.{verdict-within}
 use Rattle.structure.specs.declared.moves.Verdict.{Verdict}
 use Rattle.structure.specs.declared.moves.Verdict.the-variants.{Holds, Fails, Spent}
 
@@ -47,8 +47,8 @@ module _ (tag : Verdict → ℕ) where
   not-fails z (Holds l) o = record { settles = λ f. refl }
   not-fails z Spent o = record { settles = λ f. refl }
 
-pub limited-after : (left m : ℕ) (s : Said) → limited left (after m s) ≡ if leb m left then limited (left - m) s else Spent
-unfolding limited after
+pub limited-after : (left m : ℕ) (s : Said) → verdict-within left (after m s) ≡ if leb m left then verdict-within (left - m) s else Spent
+unfolding verdict-within after
 limited-after left m (holds n) =
     elim (decLe (m + n) left) [
       | yes p ↦ rw (le-leb (m + n) left p, le-leb m left (omega arith), le-leb n (left - m) (omega arith)) (ap Holds (omega arith))
@@ -69,42 +69,42 @@ limited-after left m (fails n) =
     ]
 
 -- an entry: one step
-pub limited-entry : (left : ℕ) (s : Said) → 0 < left → limited left (after 1 s) ≡ limited (left - 1) s
+pub limited-entry : (left : ℕ) (s : Said) → 0 < left → verdict-within left (after 1 s) ≡ verdict-within (left - 1) s
 limited-entry left s h = limited-after left 1 s ∙ rw (le-leb 1 left h)
 
-pub limited-none : (s : Said) → limited 0 (after 1 s) ≡ Spent
+pub limited-none : (s : Said) → verdict-within 0 (after 1 s) ≡ Spent
 limited-none s = limited-after 0 1 s
 
-pub limited-both : (left : ℕ) (s : Said) (f : Bool → Said) → limited left (both s f) ≡ on-holds (limited left s) (λ l. limited l (f true))
-unfolding both on-holds limited
+pub limited-both : (left : ℕ) (s : Said) (f : Bool → Said) → verdict-within left (both s f) ≡ on-holds (verdict-within left s) (λ l. verdict-within l (f true))
+unfolding both on-holds verdict-within
 limited-both left (holds m) f = limited-after left m (f true) ∙ go (leb m left)
   where
-    go : (b : Bool) → (if b then limited (left - m) (f true) else Spent) ≡ on-holds (if b then Holds (left - m) else Spent) (λ l. limited l (f true))
+    go : (b : Bool) → (if b then verdict-within (left - m) (f true) else Spent) ≡ on-holds (if b then Holds (left - m) else Spent) (λ l. verdict-within l (f true))
     go true = refl
     go false = refl
 limited-both left (fails m) f = go (leb m left)
   where
-    go : (b : Bool) → (if b then Fails (left - m) else Spent) ≡ on-holds (if b then Fails (left - m) else Spent) (λ l. limited l (f true))
+    go : (b : Bool) → (if b then Fails (left - m) else Spent) ≡ on-holds (if b then Fails (left - m) else Spent) (λ l. verdict-within l (f true))
     go true = refl
     go false = refl
 
-pub limited-either : (left : ℕ) (s : Said) (f : Bool → Said) → limited left (either s f) ≡ on-fails (limited left s) (λ l. limited l (f false))
-unfolding either on-fails limited
+pub limited-either : (left : ℕ) (s : Said) (f : Bool → Said) → verdict-within left (either s f) ≡ on-fails (verdict-within left s) (λ l. verdict-within l (f false))
+unfolding either on-fails verdict-within
 limited-either left (fails m) f = limited-after left m (f false) ∙ go (leb m left)
   where
-    go : (b : Bool) → (if b then limited (left - m) (f false) else Spent) ≡ on-fails (if b then Fails (left - m) else Spent) (λ l. limited l (f false))
+    go : (b : Bool) → (if b then verdict-within (left - m) (f false) else Spent) ≡ on-fails (if b then Fails (left - m) else Spent) (λ l. verdict-within l (f false))
     go true = refl
     go false = refl
 limited-either left (holds m) f = go (leb m left)
   where
-    go : (b : Bool) → (if b then Holds (left - m) else Spent) ≡ on-fails (if b then Holds (left - m) else Spent) (λ l. limited l (f false))
+    go : (b : Bool) → (if b then Holds (left - m) else Spent) ≡ on-fails (if b then Holds (left - m) else Spent) (λ l. verdict-within l (f false))
     go true = refl
     go false = refl
 
-pub limited-yes : (left : ℕ) → limited left (plain true) ≡ Holds left
-unfolding limited plain
+pub limited-yes : (left : ℕ) → verdict-within left (plain true) ≡ Holds left
+unfolding verdict-within plain
 limited-yes left = rw (le-leb 0 left (omega arith)) (ap Holds (omega arith))
 
-pub limited-no : (left : ℕ) → limited left (plain false) ≡ Fails left
-unfolding limited plain
+pub limited-no : (left : ℕ) → verdict-within left (plain false) ≡ Fails left
+unfolding verdict-within plain
 limited-no left = rw (le-leb 0 left (omega arith)) (ap Fails (omega arith))

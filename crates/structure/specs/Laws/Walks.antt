@@ -8,11 +8,11 @@ use native.Mathlib.Numerals.{add-one}
 use lib.ListN.{length}
 use Rattle.reader.specs.Nodes.{Nodes, count, node-width, numbers-bound}
 use Rattle.type_nodes.specs.Shapes.{next}
-use Rattle.type_nodes.specs.Stands.{Stands, Formed, Ready, Of, below}
+use Rattle.type_nodes.specs.Stands.{Stands, NodesStand, WordedNodes, Of, below}
 use Rattle.type_nodes.specs.Laws.Siblings.{first, unique}
 use Rattle.structure.specs.Said.{Said, both, plain}
-use Rattle.structure.specs.Allowance.{limited}
-use Rattle.structure.specs.Says.{Says}
+use Rattle.structure.specs.Allowance.{verdict-within}
+use Rattle.structure.specs.VerdictSays.{VerdictSays}
 use Rattle.structure.specs.Laws.Limits.{on-holds, Stops, limited-both}
 use Rattle.structure.specs.declared.moves.Verdict.{Verdict}
 use Rattle.structure.specs.declared.moves.Verdict.the-variants.{Holds}
@@ -24,42 +24,42 @@ pub record Walk (tree kinds : List ℕ) (whole : Nodes → Said) (from to allowe
   pub room : node-width * to ≤ length tree
   pub few : to ≤ numbers-bound
   pub past : from ≤ at
-  pub is : (x : Nodes) → Stands tree kinds from to x → limited allowed (whole x) ≡ limited left (todo rest)
+  pub is : (x : Nodes) → Stands tree kinds from to x → verdict-within allowed (whole x) ≡ verdict-within left (todo rest)
 
 -- What is done at the nodes `rest`: the check f of the nodes from a to e, and if it holds todo′ of the nodes from at′ on.
 pub record Turn (tree kinds : List ℕ) (todo f todo′ : Nodes → Said) (to : ℕ) (rest : Nodes) (at a e at′ : ℕ) : Type 0 where
-  pub part : Nodes
-  pub part-stands : Stands tree kinds a e part
+  pub element : Nodes
+  pub element-stands : Stands tree kinds a e element
   pub after : Nodes
   pub after-stands : Stands tree kinds at′ to after
   pub further : at ≤ at′
-  pub is : todo rest ≡ both (f part) (λ _. todo′ after)
+  pub is : todo rest ≡ both (f element) (λ _. todo′ after)
 
 module _ {tree kinds : List ℕ} {whole : Nodes → Said} {from to allowed : ℕ} where
-  pub walk-start : {left : ℕ} (todo : Nodes → Said) → Formed tree kinds from to
-      → ((x : Nodes) → Stands tree kinds from to x → limited allowed (whole x) ≡ limited left (todo x)) → Walk tree kinds whole from to allowed left todo from
+  pub walk-start : {left : ℕ} (todo : Nodes → Said) → NodesStand tree kinds from to
+      → ((x : Nodes) → Stands tree kinds from to x → verdict-within allowed (whole x) ≡ verdict-within left (todo x)) → Walk tree kinds whole from to allowed left todo from
   walk-start {left} todo r e = record {
     rest = r .nodes;
     stands = r .stands;
     room = r .room;
     few = r .few;
     past = omega arith;
-    is = λ x s. e x s ∙ ap (λ (y : Nodes). limited left (todo y)) (unique s (r .stands));
+    is = λ x s. e x s ∙ ap (λ (y : Nodes). verdict-within left (todo y)) (unique s (r .stands));
   }
 
   module _ {left : ℕ} {todo : Nodes → Said} {at : ℕ} (lp : Walk tree kinds whole from to allowed left todo at) where
-    pub walk-formed : Formed tree kinds at to
+    pub walk-formed : NodesStand tree kinds at to
     walk-formed = record { nodes = lp .rest; stands = lp .stands; room = lp .room; few = lp .few }
 
     -- A range within what is left of the level.
-    pub walk-part : {words : List ℕ} {a e : ℕ} {part : Nodes} → Stands tree kinds a e part → e ≤ to → length words ≡ length kinds → Ready tree kinds words a e
-    walk-part s h k = record {
-      formed = record { nodes = _; stands = s; room = omega (arith, lp .room); few = omega (arith, lp .few) };
+    pub walk-element : {words : List ℕ} {a e : ℕ} {element : Nodes} → Stands tree kinds a e element → e ≤ to → length words ≡ length kinds → WordedNodes tree kinds words a e
+    walk-element s h k = record {
+      nodes-stand = record { nodes = _; stands = s; room = omega (arith, lp .room); few = omega (arith, lp .few) };
       worded = k;
     }
 
-    pub walk-ends : (r : Bool) {v : Verdict} → todo (lp .rest) ≡ plain r → v ≡ limited left (plain r) → Says tree kinds from to allowed whole v
-    walk-ends r t e = record { says = λ x s. e ∙ sym (lp .is x s ∙ ap (limited left) t) }
+    pub walk-ends : (r : Bool) {v : Verdict} → todo (lp .rest) ≡ plain r → v ≡ verdict-within left (plain r) → VerdictSays tree kinds from to allowed whole v
+    walk-ends r t e = record { says = λ x s. e ∙ sym (lp .is x s ∙ ap (verdict-within left) t) }
 
     -- On to other nodes without a check.
     pub walk-on : {at′ : ℕ} {rest′ : Nodes} (todo′ : Nodes → Said) → todo (lp .rest) ≡ todo′ rest′ → Stands tree kinds at′ to rest′ → at ≤ at′
@@ -70,15 +70,15 @@ module _ {tree kinds : List ℕ} {whole : Nodes → Said} {from to allowed : ℕ
       room = lp .room;
       few = lp .few;
       past = omega (arith, lp .past);
-      is = λ x u. lp .is x u ∙ ap (limited left) t;
+      is = λ x u. lp .is x u ∙ ap (verdict-within left) t;
     }
 
     -- A check of some nodes first.
-    module _ {f todo′ : Nodes → Said} {a e at′ : ℕ} {v : Verdict} (t : Turn tree kinds todo f todo′ to (lp .rest) at a e at′) (sv : Says tree kinds a e left f v) where
-      gone : limited left (todo (lp .rest)) ≡ on-holds v (λ m. limited m (todo′ (t .after)))
-      gone = ap (limited left) (t .is) ∙ limited-both left _ _ ∙ rw (← sv .says (t .part) (t .part-stands))
+    module _ {f todo′ : Nodes → Said} {a e at′ : ℕ} {v : Verdict} (t : Turn tree kinds todo f todo′ to (lp .rest) at a e at′) (sv : VerdictSays tree kinds a e left f v) where
+      gone : verdict-within left (todo (lp .rest)) ≡ on-holds v (λ m. verdict-within m (todo′ (t .after)))
+      gone = ap (verdict-within left) (t .is) ∙ limited-both left _ _ ∙ rw (← sv .says (t .element) (t .element-stands))
 
-      pub walk-stops : Stops v → Says tree kinds from to allowed whole v
+      pub walk-stops : Stops v → VerdictSays tree kinds from to allowed whole v
       walk-stops q = record { says = λ x u. sym (lp .is x u ∙ gone ∙ q .stops _) }
 
       pub walk-holds : {m : ℕ} → v ≡ Holds m → Walk tree kinds whole from to allowed m todo′ at′
@@ -109,8 +109,8 @@ module _ {tree kinds : List ℕ} {whole : Nodes → Said} {from to allowed : ℕ
       pub walk-fits : e ≤ to
       walk-fits = omega (arith, ended, first (lp .stands) h .fits)
 
-      pub walk-below : {words : List ℕ} → length words ≡ length kinds → Ready tree kinds words (at + 1) e
-      walk-below k = walk-part below-it walk-fits k
+      pub walk-below : {words : List ℕ} → length words ≡ length kinds → WordedNodes tree kinds words (at + 1) e
+      walk-below k = walk-element below-it walk-fits k
 
-      pub walk-after : Formed tree kinds e to
+      pub walk-after : NodesStand tree kinds e to
       walk-after = record { nodes = next (lp .rest); stands = after-it; room = lp .room; few = lp .few }

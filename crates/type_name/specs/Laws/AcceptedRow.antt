@@ -23,8 +23,8 @@ use Rattle.profile.specs.Profile.{missing-feature}
 use Rattle.profile.specs.Laws.Monotone.{nothing-missing-later}
 use Rattle.profile.specs.declared.profile.Lack.{Lack}
 use Rattle.profile.specs.declared.profile.Lack.the-variants.{Nothing, Lacks}
-use Rattle.type_name.specs.FileRow.{HeadRow, Outcome, untouched, read, on-read, file-row}
-use Rattle.type_name.specs.Answers.{RowAnswer, accepted, refused, on-tree, whole-row, tree-of, after-prescan, row-tree, structure-of, by-structure, by-profile, tree-checked, unlimited, row-steps, limited, answerOf, row-answer, outcome}
+use Rattle.type_name.specs.FileRow.{HeadRow, Outcome, untouched, passes, on-pass, file-row}
+use Rattle.type_name.specs.Answers.{RowAnswer, accepted, refused, on-tree, whole-row, tree-of, after-prescan, row-tree, structure-of, by-structure, by-profile, tree-checked, unlimited, row-steps, answer-within, answerOf, row-answer, outcome}
 use Rattle.type_name.specs.Laws.FileRow.{Has, Comes, file-comes}
 
 -- ---- a row's tree
@@ -100,8 +100,8 @@ module _ (language standard flag : ℕ) (kinds words : List ℕ) where
   checked-comes (accepted x m) e = structure-comes x m e (structure-of language flag kinds words x) refl
   checked-comes (refused e m) q = tt
 
-  limited-comes : (allowance : ℕ) (a : RowAnswer) → RowComes a → RowComes (limited allowance a)
-  unfolding limited
+  limited-comes : (allowance : ℕ) (a : RowAnswer) → RowComes a → RowComes (answer-within allowance a)
+  unfolding answer-within
   limited-comes allowance a c = by-if RowComes (leb (row-steps a) allowance) (λ _. c) (λ _. tt)
 
   row-comes : (allowance : ℕ) → RowComes (answerOf language standard flag kinds words allowance)
@@ -111,7 +111,7 @@ module _ (language standard flag : ℕ) (kinds words : List ℕ) where
 -- "The same or any later standard of that language", "every allowance not below those steps".
 pub row-stable : (language standard standard′ flag : ℕ) (kinds words : List ℕ) (allowance : ℕ) (x : Nodes) (steps : ℕ) → RowAccepted language standard flag kinds words x steps
     → SameOrLater standard standard′ → steps ≤ allowance → answerOf language standard′ flag kinds words allowance ≡ accepted x steps
-unfolding answerOf unlimited tree-checked on-tree by-structure by-profile limited row-steps
+unfolding answerOf unlimited tree-checked on-tree by-structure by-profile answer-within row-steps
 row-stable language standard standard′ flag kinds words allowance x steps r later enough =
     rw (r .is-read, r .structured, nothing-missing-later standard standard′ later language kinds words (r .has-all), r .all-steps, le-leb steps allowance enough) refl
 
@@ -126,23 +126,23 @@ pub record FileAccepted (file : List ℕ) (ts : List RowToken) (x : Nodes) (step
 
 abbrev Accepts : (file : List ℕ) → Outcome RowAnswer → Type 0
 Accepts file (untouched e) = Unit {0}
-Accepts file (read (accepted x m)) = (ts : List RowToken) × FileAccepted file ts x m
-Accepts file (read (refused e m)) = Unit {0}
+Accepts file (passes (accepted x m)) = (ts : List RowToken) × FileAccepted file ts x m
+Accepts file (passes (refused e m)) = Unit {0}
 
 module _ (file : List ℕ) (room : ℕ) where
   answer-accepts : (r : HeadRow) → Has file room r
-      → (a : RowAnswer) → RowComes (r .the-head .language) (r .the-head .standard) (r .the-head .flag) (kinds-of (r .tokens)) (words-of (r .tokens)) a → Accepts file (read a)
+      → (a : RowAnswer) → RowComes (r .the-head .language) (r .the-head .standard) (r .the-head .flag) (kinds-of (r .tokens)) (words-of (r .tokens)) a → Accepts file (passes a)
   answer-accepts r h (accepted x m) c = (r .tokens, record { head-of = r .the-head; formed = h .formed; row-is = h .row-is; row-accepted = c })
   answer-accepts r h (refused f m) c = tt
 
-  row-accepts : (o : Outcome HeadRow) → Comes file room o → Accepts file (on-read o λ r. read (row-answer r))
-  unfolding on-read row-answer
+  row-accepts : (o : Outcome HeadRow) → Comes file room o → Accepts file (on-pass o λ r. passes (row-answer r))
+  unfolding on-pass row-answer
   row-accepts (untouched e) c = tt
-  row-accepts (read r) c =
+  row-accepts (passes r) c =
       answer-accepts r c (row-answer r)
       (row-comes (r .the-head .language) (r .the-head .standard) (r .the-head .flag) (kinds-of (r .tokens)) (words-of (r .tokens)) (r .the-head .allowance))
 
   -- Every accepted outcome of a file comes of its row.
-  pub accepted-file : (x : Nodes) (m : ℕ) → outcome file room ≡ read (accepted x m) → (ts : List RowToken) × FileAccepted file ts x m
+  pub accepted-file : (x : Nodes) (m : ℕ) → outcome file room ≡ passes (accepted x m) → (ts : List RowToken) × FileAccepted file ts x m
   unfolding outcome
   accepted-file x m e = subst (Accepts file) e (row-accepts (file-row format file room) (file-comes file room))

@@ -21,7 +21,7 @@ use Rattle.rows.specs.declared.answer.TypeNameError.the-variants.{UnexpectedTok
 use Rattle.rows.specs.declared.head.Head.{Head}
 use Rattle.prescan.specs.Prescan.{Scan, Scanned, passed, prescan}
 use Rattle.prescan.specs.Prescan
-use Rattle.prescan.specs.Prescanned.{Same, Says}
+use Rattle.prescan.specs.Prescanned.{Same, PrescanSays}
 use Rattle.prescan.specs.declared.boundary.Prescanned.{Prescanned}
 use Rattle.prescan.specs.declared.boundary.Prescanned.the-variants as P
 use Rattle.reader.specs.Nodes.{Nodes, count, node-width, records}
@@ -32,11 +32,11 @@ use Rattle.reader.specs.declared.parser.Parsed.the-variants as R
 use Rattle.reader.specs.Allowance.{steps}
 use Rattle.reader.specs.Laws.Bounds.{two-nodes}
 use Rattle.reader.specs.Laws.Buffer.{holds as in-buffer}
-use Rattle.type_nodes.specs.Stands.{Ready}
+use Rattle.type_nodes.specs.Stands.{WordedNodes}
 use Rattle.structure.specs.Said.{Said, holds, fails, after}
 use Rattle.structure.specs.Structure.{validate-structured-syntax}
 use Rattle.structure.specs.Allowance as Steps
-use Rattle.structure.specs.Says as Structure
+use Rattle.structure.specs.VerdictSays as Structure
 use Rattle.structure.specs.Laws.Limits.{limited-after}
 use Rattle.structure.specs.Laws.Trees.{tree-stands}
 use Rattle.structure.specs.declared.moves.Verdict.{Verdict}
@@ -44,8 +44,8 @@ use Rattle.structure.specs.declared.moves.Verdict.the-variants.{Holds, Fails, S
 use Rattle.profile.specs.Profile.{missing-feature}
 use Rattle.profile.specs.declared.profile.Lack.{Lack}
 use Rattle.profile.specs.declared.profile.Lack.the-variants.{Nothing, Lacks}
-use Rattle.type_name.specs.FileRow.{read}
-use Rattle.type_name.specs.Answers.{RowAnswer, accepted, refused, on-tree, refusal-of, whole-row, tree-of, after-prescan, row-tree, structure-of, by-structure, by-profile, tree-checked, row-steps, limited, answer-in}
+use Rattle.type_name.specs.FileRow.{passes}
+use Rattle.type_name.specs.Answers.{RowAnswer, accepted, refused, on-tree, refusal-of, whole-row, tree-of, after-prescan, row-tree, structure-of, by-structure, by-profile, tree-checked, row-steps, answer-within, answer-in}
 use Rattle.type_name.specs.EntrySays.{TreeIn, TreeTold, TreeSays, NodesReady, NodesSay, CheckSays, InFront, ReadsRow, profile-answer, verdict-answer, row-checked}
 
 left-of : (al n : ℕ) → n ≤ al → al - (al - n) ≡ n
@@ -56,12 +56,12 @@ add-zero m = omega arith
 
 -- ---- under an allowance
 
-pub limited-fits : (al : ℕ) (a : RowAnswer) → row-steps a ≤ al → limited al a ≡ a
-unfolding limited
+pub limited-fits : (al : ℕ) (a : RowAnswer) → row-steps a ≤ al → answer-within al a ≡ a
+unfolding answer-within
 limited-fits al a p = rw (le-leb (row-steps a) al p) refl
 
-pub limited-over : (al : ℕ) (a : RowAnswer) → al < row-steps a → limited al a ≡ refused AllowancePassed al
-unfolding limited
+pub limited-over : (al : ℕ) (a : RowAnswer) → al < row-steps a → answer-within al a ≡ refused AllowancePassed al
+unfolding answer-within
 limited-over al a p = rw (lt-leb (row-steps a) al p) refl
 
 -- ---- what the structure check leaves of the allowance
@@ -71,8 +71,8 @@ left-in (Holds left) = left
 left-in (Fails left) = left
 left-in Spent = 0
 
-left-below : (al : ℕ) (w : Said) → left-in (Steps.limited al w) ≤ al
-unfolding Steps.limited
+left-below : (al : ℕ) (w : Said) → left-in (Steps.verdict-within al w) ≤ al
+unfolding Steps.verdict-within
 left-below al (holds k) = below-if (leb k al)
   where
     below-if : (b : Bool) → left-in (if b then Holds (al - k) else Spent) ≤ al
@@ -84,20 +84,20 @@ left-below al (fails k) = below-if (leb k al)
     below-if true = omega arith
     below-if false = omega arith
 
-pub left-within : {v : Verdict} (al : ℕ) (w : Said) → v ≡ Steps.limited al w → left-in v ≤ al
+pub left-within : {v : Verdict} (al : ℕ) (w : Said) → v ≡ Steps.verdict-within al w → left-in v ≤ al
 left-within al w e = rw e (left-below al w)
 
 -- ---- a tree that stands in front of the buffer
 
 module _ {kinds tree : List ℕ} {al n m : ℕ} {x : Nodes} (t : TreeIn kinds al x n m tree) where
-  pub tree-ready : {words : List ℕ} → length words ≡ length kinds → length kinds ≤ most-tokens → Ready tree kinds words 0 n
+  pub tree-ready : {words : List ℕ} → length words ≡ length kinds → length kinds ≤ most-tokens → WordedNodes tree kinds words 0 n
   tree-ready w k = record {
-    formed = record { nodes = x; stands = t .stands; room = in-buffer x n tree (t .counted) (t .written); few = omega (arith, t .few, k) };
+    nodes-stand = record { nodes = x; stands = t .stands; room = in-buffer x n tree (t .counted) (t .written); few = omega (arith, t .few, k) };
     worded = w;
   }
 
   -- The steps of its check are added to those of the reading.
-  pub steps-added : {what : Nodes → Said} {v : Verdict} → Structure.Says tree kinds 0 n (al - m) what v → v ≡ Steps.limited al (after m (what x))
+  pub steps-added : {what : Nodes → Said} {v : Verdict} → Structure.VerdictSays tree kinds 0 n (al - m) what v → v ≡ Steps.verdict-within al (after m (what x))
   steps-added {what} s = s .says x (t .stands) ∙ sym (limited-after al m (what x) ∙ rw (le-leb m al (t .allowed)))
 
 -- ---- its checks, under the row's profile, flag and allowance
@@ -110,24 +110,24 @@ module _ (l s f al : ℕ) (kinds words : List ℕ) where
   profiled a = on-tree a (λ x m. by-profile x m lack)
 
   -- What the profile says,
-  profile-told : (x : Nodes) (n m : ℕ) (k : Lack) → count x ≡ n → m ≤ al → profile-answer n m k ≡ answer-in (read (limited al (by-profile x m k)))
+  profile-told : (x : Nodes) (n m : ℕ) (k : Lack) → count x ≡ n → m ≤ al → profile-answer n m k ≡ answer-in (passes (answer-within al (by-profile x m k)))
   unfolding answer-in by-profile row-steps
   profile-told x n m Nothing c p = rw (limited-fits al (accepted x m) p) (ap (λ (t : ℕ). Accepted t m) (sym c))
   profile-told x n m (Lacks g) c p = rw (limited-fits al (refused (NotAvailableInProfile g) m) p) refl
 
-  profile-over : (x : Nodes) (m : ℕ) (k : Lack) → al < m → limited al (by-profile x m k) ≡ refused AllowancePassed al
+  profile-over : (x : Nodes) (m : ℕ) (k : Lack) → al < m → answer-within al (by-profile x m k) ≡ refused AllowancePassed al
   unfolding by-profile row-steps
   profile-over x m Nothing p = limited-over al (accepted x m) p
   profile-over x m (Lacks g) p = limited-over al (refused (NotAvailableInProfile g) m) p
 
   -- and the structure check before it.
   structure-told : (x : Nodes) (n m : ℕ) (w : Said) → count x ≡ n
-      → verdict-answer n al lack (Steps.limited al (after m w)) ≡ answer-in (read (limited al (profiled (by-structure x m w))))
-  unfolding Steps.limited after by-structure on-tree answer-in row-steps
+      → verdict-answer n al lack (Steps.verdict-within al (after m w)) ≡ answer-in (passes (answer-within al (profiled (by-structure x m w))))
+  unfolding Steps.verdict-within after by-structure on-tree answer-in row-steps
   structure-told x n m (holds k) c =
       elim (decLe (m + k) al) [
         | yes p ↦ rw (le-leb (m + k) al p) (ap (λ (t : ℕ). profile-answer n t lack) (left-of al (m + k) p) ∙ profile-told x n (m + k) lack c p)
-        | no p ↦ rw (lt-leb (m + k) al (lt-of-not-le p)) (ap (λ (o : RowAnswer). answer-in (read o)) (sym (profile-over x (m + k) lack (lt-of-not-le p))))
+        | no p ↦ rw (lt-leb (m + k) al (lt-of-not-le p)) (ap (λ (o : RowAnswer). answer-in (passes o)) (sym (profile-over x (m + k) lack (lt-of-not-le p))))
       ]
   structure-told x n m (fails k) c =
       elim (decLe (m + k) al) [
@@ -137,20 +137,20 @@ module _ (l s f al : ℕ) (kinds words : List ℕ) where
 
   module _ {tree : List ℕ} {n m : ℕ} {x : Nodes} (t : TreeIn kinds al x n m tree) where
     -- Where the flag asks for no structure,
-    pub unchecked : asks-structure f ≡ false → profile-answer n m lack ≡ answer-in (read (limited al (tree-checked l s f kinds words (accepted x m))))
+    pub unchecked : asks-structure f ≡ false → profile-answer n m lack ≡ answer-in (passes (answer-within al (tree-checked l s f kinds words (accepted x m))))
     unfolding tree-checked on-tree structure-of by-structure
     unchecked q = rw (q, add-zero m) (profile-told x n m lack (t .counted) (t .allowed))
 
     -- and where it does: the structure check's verdict.
-    pub verdict-told : {v : Verdict} → asks-structure f ≡ true → v ≡ Steps.limited al (after m (validate-structured-syntax l kinds words x))
-        → verdict-answer n al lack v ≡ answer-in (read (limited al (tree-checked l s f kinds words (accepted x m))))
+    pub verdict-told : {v : Verdict} → asks-structure f ≡ true → v ≡ Steps.verdict-within al (after m (validate-structured-syntax l kinds words x))
+        → verdict-answer n al lack v ≡ answer-in (passes (answer-within al (tree-checked l s f kinds words (accepted x m))))
     unfolding tree-checked on-tree structure-of
     verdict-told q e = rw (e, q) (structure-told x n m (validate-structured-syntax l kinds words x) (t .counted))
 
   -- ---- the tree stands in front of the buffer
 
-  in-front-limited : (o : RowAnswer) (tree : List ℕ) → InFront o tree → InFront (limited al o) tree
-  unfolding limited
+  in-front-limited : (o : RowAnswer) (tree : List ℕ) → InFront o tree → InFront (answer-within al o) tree
+  unfolding answer-within
   in-front-limited o tree w = by (leb (row-steps o) al)
     where
       by : (b : Bool) → InFront (if b then o else refused AllowancePassed al) tree
@@ -171,7 +171,7 @@ module _ (l s f al : ℕ) (kinds words : List ℕ) where
   in-front-structure x m (holds k) tree w = w
   in-front-structure x m (fails k) tree w = tt
 
-  tree-in-front : {tree : List ℕ} {n m : ℕ} {x : Nodes} → TreeIn kinds al x n m tree → InFront (limited al (tree-checked l s f kinds words (accepted x m))) tree
+  tree-in-front : {tree : List ℕ} {n m : ℕ} {x : Nodes} → TreeIn kinds al x n m tree → InFront (answer-within al (tree-checked l s f kinds words (accepted x m))) tree
   unfolding tree-checked on-tree
   tree-in-front {tree} {n} {m} {x} t =
       let held : take (node-width * count x) tree ≡ records x = ap (λ (k : ℕ). take (node-width * k) tree) (t .counted) ∙ t .written in
@@ -205,7 +205,7 @@ module _ (l s f al : ℕ) (kinds words : List ℕ) where
       omega (arith, structure-steps x m (structure-of l f kinds words x), profile-steps (by-structure x m (structure-of l f kinds words x)))
   checked-steps (refused e m) = omega arith
 
-  checked-over : (o : RowAnswer) → al < row-steps o → limited al (tree-checked l s f kinds words o) ≡ refused AllowancePassed al
+  checked-over : (o : RowAnswer) → al < row-steps o → answer-within al (tree-checked l s f kinds words o) ≡ refused AllowancePassed al
   checked-over o p = limited-over al (tree-checked l s f kinds words o) (omega (arith, p, checked-steps o))
 
 -- ---- what `check_tree` says, by what the reading came to
@@ -234,7 +234,7 @@ module _ (h : Head) (kinds words : List ℕ) {p : Parsed} {tree : List ℕ} wher
       record {
         says = λ o t.
             let (fits, is) = told q t in
-            refusal-told h kinds words tree o (ap (row-checked h kinds words) is ∙ ap (limited (h .allowance)) (checked-refused (h .language) (h .standard) (h .flag) (h .allowance) kinds words e m)
+            refusal-told h kinds words tree o (ap (row-checked h kinds words) is ∙ ap (answer-within (h .allowance)) (checked-refused (h .language) (h .standard) (h .flag) (h .allowance) kinds words e m)
             ∙ limited-fits (h .allowance) (refused e m) fits);
       }
 
@@ -251,10 +251,10 @@ nodes-ready {kinds} {words} {tree} {al} {o = o} e k w t =
 -- ---- what the code of the layers below answers, by its cases
 
 module _ {d : Scanned} where
-  pub scan-refused : {r : Prescanned} {e : TypeNameError} → r ≡ P.Refused e → Says r d → d ≡ Prescan.refused e
+  pub scan-refused : {r : Prescanned} {e : TypeNameError} → r ≡ P.Refused e → PrescanSays r d → d ≡ Prescan.refused e
   scan-refused q h = subst (λ (c : Prescanned). Same c d) q (h .same)
 
-  pub scan-passed : {r : Prescanned} → r ≡ P.Passed → Says r d → (t : Scan) × (d ≡ passed t)
+  pub scan-passed : {r : Prescanned} → r ≡ P.Passed → PrescanSays r d → (t : Scan) × (d ≡ passed t)
   scan-passed q h = subst (λ (c : Prescanned). Same c d) q (h .same)
 
 -- ---- the tree of a row

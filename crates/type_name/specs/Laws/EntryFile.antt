@@ -19,9 +19,9 @@ use Rattle.rows.specs.declared.head.Head.{Head}
 use Rattle.rows.specs.declared.head.FileHead.{FileHead}
 use Rattle.rows.specs.declared.head.FileHead.the-variants as FileHead
 use Rattle.reader.specs.Nodes.{numbers-per-token}
-use Rattle.type_name.specs.FileRow.{HeadRow, Outcome, untouched, read, on-read, file-row}
+use Rattle.type_name.specs.FileRow.{HeadRow, Outcome, untouched, passes, on-pass, file-row}
 use Rattle.type_name.specs.Answers.{RowAnswer, answerOf, row-answer, outcome, answer-in, answer, buffer-in, final-buffer}
-use Rattle.type_name.specs.EntrySays.{RowTaken, FileAnswered, ReadsFile, RowReady}
+use Rattle.type_name.specs.EntrySays.{FileRowTaken, FileAnswered, ReadsFile, RowReady}
 use Rattle.type_name.specs.Promises.{Promised}
 use Rattle.type_name.specs.declared.file_row.FileRow.{FileRow}
 use Rattle.type_name.specs.declared.file_row.FileRow.the-variants as FileRow
@@ -48,7 +48,7 @@ module _ {file : List ℕ} {room : ℕ} {kinds words places kinds′ words′ pl
   file-refused q h = subst (λ (c : FileRow). FileAnswered file room kinds words places c kinds′ words′ places′) q (h .answered)
 
   pub file-taken : {h : Head} {count : ℕ} → r ≡ FileRow.Row h count → ReadsFile file room kinds words places r kinds′ words′ places′
-      → RowTaken file room kinds words places h count kinds′ words′ places′
+      → FileRowTaken file room kinds words places h count kinds′ words′ places′
   file-taken q h = subst (λ (c : FileRow). FileAnswered file room kinds words places c kinds′ words′ places′) q (h .answered)
 
 -- ---- what is lent of the arrays
@@ -81,7 +81,7 @@ module _ {ts : List RowToken} {n : ℕ} {kinds words places kinds′ words′ pl
 -- ---- the row that was taken
 
 module _ {file : List ℕ} {room : ℕ} {kinds words places kinds′ words′ places′ : List ℕ} {h : Head} {n : ℕ}
-    (r : RowTaken file room kinds words places h n kinds′ words′ places′) where
+    (r : FileRowTaken file room kinds words places h n kinds′ words′ places′) where
   abbrev has : Has file room (record { the-head = h; tokens = r .taken })
   has = subst (Comes file room) (r .is) (file-comes file room)
 
@@ -100,15 +100,15 @@ module _ {file : List ℕ} {room : ℕ} {kinds words places kinds′ words′ pl
 
 module _ (file before : List ℕ) where
   pub untouched-told : {e : TypeNameError} → file-row format file (length before) ≡ untouched e → Promised file before (Refused e 0) before
-  unfolding answer answer-in final-buffer buffer-in outcome on-read
+  unfolding answer answer-in final-buffer buffer-in outcome on-pass
   untouched-told q = promised file before _ before (rw q refl) (rw q refl)
 
   pub row-told : {h : Head} {n : ℕ} {kinds words places kinds′ words′ places′ after : List ℕ} {a : Answer}
-      → RowTaken file (length before) kinds words places h n kinds′ words′ places′
-      → a ≡ answer-in (read (answerOf (h .language) (h .standard) (h .flag) (take n kinds′) (take n words′) (h .allowance)))
-      → after ≡ buffer-in before (read (answerOf (h .language) (h .standard) (h .flag) (take n kinds′) (take n words′) (h .allowance)))
+      → FileRowTaken file (length before) kinds words places h n kinds′ words′ places′
+      → a ≡ answer-in (passes (answerOf (h .language) (h .standard) (h .flag) (take n kinds′) (take n words′) (h .allowance)))
+      → after ≡ buffer-in before (passes (answerOf (h .language) (h .standard) (h .flag) (take n kinds′) (take n words′) (h .allowance)))
       → Promised file before a after
-  unfolding answer final-buffer outcome on-read row-answer
+  unfolding answer final-buffer outcome on-pass row-answer
   row-told r e f =
       promised file before _ _
       (rw (r .is, ← (kinds-front (r .in-arrays)), ← (words-front (r .in-arrays))) e)

@@ -20,9 +20,9 @@ use Rattle.rows.specs.declared.head.Head.{Head}
 use Rattle.rows.specs.declared.head.FileHead.{FileHead}
 use Rattle.rows.specs.declared.head.FileHead.the-variants as FileHead
 use Rattle.reader.specs.Nodes.{numbers-per-token}
-use Rattle.type_name.specs.FileRow.{HeadRow, Outcome, untouched, read, on-read, head-read, row-read, with-room, file-row}
+use Rattle.type_name.specs.FileRow.{HeadRow, Outcome, untouched, passes, on-pass, head-read, row-read, with-room, file-row}
 use Rattle.type_name.specs.EntrySays.{HeadRead}
-use Rattle.type_name.specs.Laws.Parts.{wider}
+use Rattle.type_name.specs.Laws.Fields.{wider}
 
 not-true : (b : Bool) → T (not b) → b ≡ false
 not-true true t = absurd t
@@ -57,21 +57,21 @@ module _ (file : List ℕ) (room : ℕ) where
   rows = records-from format file most-tokens head-length
 
   pub head-refused : {e : TypeNameError} → head format file ≡ FileHead.Refused e → file-row format file room ≡ untouched e
-  unfolding file-row on-read head-read
+  unfolding file-row on-pass head-read
   head-refused q = rw q refl
 
   module _ (h : Head) (formed : head format file ≡ FileHead.Formed h) where
     pub row-refused : {e : TypeNameError} → rows ≡ Records.refused e → file-row format file room ≡ untouched e
-    unfolding file-row on-read head-read row-read
+    unfolding file-row on-pass head-read row-read
     row-refused q = rw (formed, q) refl
 
     pub row-short : {n : ℕ} {ts : List RowToken} → rows ≡ row ts → n ≡ length ts → room < numbers-per-token * n → file-row format file room ≡ untouched ShortBuffer
-    unfolding file-row on-read head-read row-read with-room
+    unfolding file-row on-pass head-read row-read with-room
     row-short {ts = ts} q e p = rw (formed, q, lt-ltb room (numbers-per-token * length ts) (omega (arith, e, p))) refl
 
     pub row-fits : {n : ℕ} {ts : List RowToken} → rows ≡ row ts → n ≡ length ts → numbers-per-token * n ≤ room
-        → file-row format file room ≡ read (record { the-head = h; tokens = ts })
-    unfolding file-row on-read head-read row-read with-room
+        → file-row format file room ≡ passes (record { the-head = h; tokens = ts })
+    unfolding file-row on-pass head-read row-read with-room
     row-fits {ts = ts} q e p = rw (formed, q, le-ltb room (numbers-per-token * length ts) (omega (arith, e, p))) refl
 
   -- ---- and back
@@ -85,7 +85,7 @@ module _ (file : List ℕ) (room : ℕ) where
   -- "Refusals 1 to 6".
   abbrev pub Comes : Outcome HeadRow → Type 0
   Comes (untouched e) = Between 1 6 e
-  Comes (read r) = Has r
+  Comes (passes r) = Has r
 
   room-comes : (h : Head) → head format file ≡ FileHead.Formed h → (ts : List RowToken) → rows ≡ row ts → Comes (with-room room h ts)
   unfolding with-room
@@ -93,13 +93,13 @@ module _ (file : List ℕ) (room : ℕ) where
       by-if Comes (ltb room (numbers-per-token * length ts)) (λ _. tt)
       (λ t. record { formed = p; row-is = q; fits = ltb-false room (numbers-per-token * length ts) (not-true (ltb room (numbers-per-token * length ts)) t) })
 
-  row-comes : (h : Head) → head format file ≡ FileHead.Formed h → (r : Row) → RowNumbered r → rows ≡ r → Comes (on-read (row-read r) λ ts. with-room room h ts)
-  unfolding on-read row-read
+  row-comes : (h : Head) → head format file ≡ FileHead.Formed h → (r : Row) → RowNumbered r → rows ≡ r → Comes (on-pass (row-read r) λ ts. with-room room h ts)
+  unfolding on-pass row-read
   row-comes h p (Records.refused e) b q = wider 4 5 1 6 (omega arith) (omega arith) e b
   row-comes h p (row ts) b q = room-comes h p ts q
 
-  head-comes : (g : FileHead) → HeadNumbered g → head format file ≡ g → Comes (on-read (head-read g) λ h. on-read (row-read rows) λ ts. with-room room h ts)
-  unfolding on-read head-read
+  head-comes : (g : FileHead) → HeadNumbered g → head format file ≡ g → Comes (on-pass (head-read g) λ h. on-pass (row-read rows) λ ts. with-room room h ts)
+  unfolding on-pass head-read
   head-comes (FileHead.Refused e) b p = wider 1 3 1 6 (omega arith) (omega arith) e b
   head-comes (FileHead.Formed h) b p = row-comes h p rows (records-numbered format file most-tokens head-length) refl
 

@@ -11,13 +11,13 @@ use Rattle.rows.specs.declared.answer.TypeNameError.{TypeNameError}
 use Rattle.reader.specs.Nodes.{count, node-width, records}
 use Rattle.reader.specs.Laws.NodeNumbers.{three-each}
 use Rattle.reader.specs.Laws.Buffer.{lent, given-back, holds}
-use Rattle.type_name.specs.FileRow.{read}
+use Rattle.type_name.specs.FileRow.{passes}
 use Rattle.type_name.specs.Answers.{RowAnswer, accepted, refused, answer-in, filled, buffer-in}
-use Rattle.type_name.specs.EntrySays.{InFront, ReadsRow, Fits, settled}
+use Rattle.type_name.specs.EntrySays.{InFront, ReadsRow, TreeFits, settled}
 
 module _ {a : Answer} (tree : List ℕ) where
-  pub accepted-fits : {n m : ℕ} → a ≡ Accepted n m → Fits a tree → node-width * n ≤ length tree
-  accepted-fits e h = subst (λ (b : Answer). Fits b tree) e h
+  pub accepted-fits : {n m : ℕ} → a ≡ Accepted n m → TreeFits a tree → node-width * n ≤ length tree
+  accepted-fits e h = subst (λ (b : Answer). TreeFits b tree) e h
 
   -- Behind the tree there are zeros,
   pub settled-tree : {n m : ℕ} {ys : List ℕ} → a ≡ Accepted n m → node-width * n ≤ length tree → ys ≡ replicate (length (lent (node-width * n) tree)) 0
@@ -34,19 +34,19 @@ module _ {a : Answer} (tree : List ℕ) where
 
 -- What is settled is what the definition says, whatever the buffer held before.
 module _ (tree : List ℕ) where
-  pub row-fits : (o : RowAnswer) → InFront o tree → Fits (answer-in (read o)) tree
+  pub row-fits : (o : RowAnswer) → InFront o tree → TreeFits (answer-in (passes o)) tree
   unfolding answer-in
   row-fits (accepted x m) w = holds x (count x) tree refl w
   row-fits (refused e m) w = tt
 
-  pub row-settled : (o : RowAnswer) (before : List ℕ) → InFront o tree → length tree ≡ length before → settled tree (answer-in (read o)) ≡ buffer-in before (read o)
+  pub row-settled : (o : RowAnswer) (before : List ℕ) → InFront o tree → length tree ≡ length before → settled tree (answer-in (passes o)) ≡ buffer-in before (passes o)
   unfolding answer-in buffer-in filled
   row-settled (accepted x m) before w e = rw (w, e, three-each x) refl
   row-settled (refused e m) before w q = rw (q, sub-zero (length before)) refl
 
 module _ {o : RowAnswer} {a : Answer} {tree : List ℕ} (h : ReadsRow o a tree) where
-  pub told-fits : Fits a tree
+  pub told-fits : TreeFits a tree
   told-fits = rw (h .answered) (row-fits tree o (h .in-front))
 
-  pub told-settled : (before : List ℕ) {after : List ℕ} → length tree ≡ length before → after ≡ settled tree a → after ≡ buffer-in before (read o)
+  pub told-settled : (before : List ℕ) {after : List ℕ} → length tree ≡ length before → after ≡ settled tree a → after ≡ buffer-in before (passes o)
   told-settled before e q = q ∙ ap (settled tree) (h .answered) ∙ row-settled tree o before (h .in-front) e

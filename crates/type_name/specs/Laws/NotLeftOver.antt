@@ -29,9 +29,9 @@ use Rattle.structure.specs.Said.{Said, holds, fails}
 use Rattle.profile.specs.Profile.{missing-feature}
 use Rattle.profile.specs.declared.profile.Lack.{Lack}
 use Rattle.profile.specs.declared.profile.Lack.the-variants.{Nothing, Lacks}
-use Rattle.type_name.specs.FileRow.{HeadRow, Outcome, untouched, read, on-read, file-row}
-use Rattle.type_name.specs.Answers.{RowAnswer, accepted, refused, on-tree, refusal-of, whole-row, tree-of, after-prescan, row-tree, structure-of, by-structure, by-profile, tree-checked, unlimited, row-steps, limited, answerOf, row-answer, outcome, answer-in, answer}
-use Rattle.type_name.specs.Laws.Parts.{number-in, bounds}
+use Rattle.type_name.specs.FileRow.{HeadRow, Outcome, untouched, passes, on-pass, file-row}
+use Rattle.type_name.specs.Answers.{RowAnswer, accepted, refused, on-tree, refusal-of, whole-row, tree-of, after-prescan, row-tree, structure-of, by-structure, by-profile, tree-checked, unlimited, row-steps, answer-within, answerOf, row-answer, outcome, answer-in, answer}
+use Rattle.type_name.specs.Laws.Fields.{number-in, bounds}
 use Rattle.type_name.specs.Laws.FileRow.{Has, Comes, file-comes}
 use Rattle.type_name.specs.Laws.RowTokens.{kinds-known}
 
@@ -96,8 +96,8 @@ module _ (language standard flag : ℕ) (kinds words : List ℕ) (known : KindsK
       (next-other (row-tree language kinds) _ (prescan-other (prescan language kinds) (prescan-numbered language kinds)) (λ x m. structure-other x m (structure-of language flag kinds words x)))
       (λ x m. profile-other x m (missing-feature language standard kinds words))
 
-  limited-other : (allowance : ℕ) (a : RowAnswer) → RowOther a → RowOther (limited allowance a)
-  unfolding limited
+  limited-other : (allowance : ℕ) (a : RowAnswer) → RowOther a → RowOther (answer-within allowance a)
+  unfolding answer-within
   limited-other allowance a p = by-if RowOther (leb (row-steps a) allowance) (λ _. p) (λ _ q. omega (arith, q))
 
   pub row-other : (allowance : ℕ) → RowOther (answerOf language standard flag kinds words allowance)
@@ -108,20 +108,20 @@ module _ (language standard flag : ℕ) (kinds words : List ℕ) (known : KindsK
 
 abbrev FileOther : Outcome RowAnswer → Type 0
 FileOther (untouched e) = Other e
-FileOther (read a) = RowOther a
+FileOther (passes a) = RowOther a
 
-file-other : (file : List ℕ) (room : ℕ) (o : Outcome HeadRow) → Comes file room o → FileOther (on-read o λ r. read (row-answer r))
-unfolding on-read row-answer
+file-other : (file : List ℕ) (room : ℕ) (o : Outcome HeadRow) → Comes file room o → FileOther (on-pass o λ r. passes (row-answer r))
+unfolding on-pass row-answer
 file-other file room (untouched e) c = below 1 6 e c (omega arith)
-file-other file room (read r) c =
+file-other file room (passes r) c =
     row-other (r .the-head .language) (r .the-head .standard) (r .the-head .flag) (kinds-of (r .tokens)) (words-of (r .tokens))
     (kinds-known (r .tokens) (good-row format file most-tokens head-length (r .tokens) (c .row-is))) (r .the-head .allowance)
 
 answered-other : (o : Outcome RowAnswer) → FileOther o → (e : TypeNameError) (m : ℕ) → answer-in o ≡ Refused e m → Other e
 unfolding answer-in
 answered-other (untouched e′) p e m q n = p (ap number-in q ∙ n)
-answered-other (read (accepted x k)) p e m q n = let clash : _≡_ {A = ℕ} 0 left-over = ap number-in q ∙ n in omega (arith, clash)
-answered-other (read (refused e′ k)) p e m q n = p (ap number-in q ∙ n)
+answered-other (passes (accepted x k)) p e m q n = let clash : _≡_ {A = ℕ} 0 left-over = ap number-in q ∙ n in omega (arith, clash)
+answered-other (passes (refused e′ k)) p e m q n = p (ap number-in q ∙ n)
 
 -- No file and no buffer is answered with 23.
 pub never-23 : (file : List ℕ) (room : ℕ) (e : TypeNameError) (m : ℕ) → answer file room ≡ Refused e m → refusalOf e .number ≡ 23 → ⊥

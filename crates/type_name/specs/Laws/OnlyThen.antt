@@ -14,9 +14,9 @@ use Rattle.rows.specs.declared.answer.TypeNameError.the-variants.{AllowancePass
 use Rattle.rows.specs.declared.answer.Answer.the-variants.{Refused}
 use Rattle.rows.specs.declared.head.Head.{Head}
 use Rattle.rows.specs.declared.head.FileHead.the-variants as FileHead
-use Rattle.type_name.specs.FileRow.{HeadRow, Outcome, untouched, read, on-read, file-row}
-use Rattle.type_name.specs.Answers.{RowAnswer, accepted, refused, unlimited, row-steps, limited, answerOf, row-answer, outcome, answer-in, answer}
-use Rattle.type_name.specs.Laws.Parts.{number-in, steps-in, bounds}
+use Rattle.type_name.specs.FileRow.{HeadRow, Outcome, untouched, passes, on-pass, file-row}
+use Rattle.type_name.specs.Answers.{RowAnswer, accepted, refused, unlimited, row-steps, answer-within, answerOf, row-answer, outcome, answer-in, answer}
+use Rattle.type_name.specs.Laws.Fields.{number-in, steps-in, bounds}
 use Rattle.type_name.specs.Laws.FileRow.{Has, Comes, file-comes}
 use Rattle.type_name.specs.Laws.Total.{Unspent, unlimited-unspent}
 
@@ -34,25 +34,25 @@ abbrev Is25 : Outcome RowAnswer → (steps : ℕ) → Type 0
 Is25 o m = answer-in o ≡ Refused AllowancePassed m
 
 -- No other refusal is 25.
-other : (a : RowAnswer) → Unspent a → (m : ℕ) → Is25 (read a) m → ⊥
+other : (a : RowAnswer) → Unspent a → (m : ℕ) → Is25 (passes a) m → ⊥
 unfolding answer-in
 other (accepted x n) u m q = let clash : _≡_ {A = ℕ} 0 25 = ap number-in q in omega (arith, clash)
 other (refused e n) (inl b) m q = let is : refusalOf e .number ≡ 25 = ap number-in q in omega (arith, bounds 10 23 e b, is)
 other (refused e n) (inr b) m q = let is : refusalOf e .number ≡ 25 = ap number-in q in omega (arith, bounds 30 40 e b, is)
 
 -- An allowance that does not suffice.
-passed : (allowance : ℕ) (a : RowAnswer) → Unspent a → (m : ℕ) → Is25 (read (limited allowance a)) m → (allowance < row-steps a) × (m ≡ allowance)
-unfolding limited answer-in
+passed : (allowance : ℕ) (a : RowAnswer) → Unspent a → (m : ℕ) → Is25 (passes (answer-within allowance a)) m → (allowance < row-steps a) × (m ≡ allowance)
+unfolding answer-within answer-in
 passed allowance a u m =
-    by-if (λ (b : RowAnswer). Is25 (read b) m → (allowance < row-steps a) × (m ≡ allowance)) (leb (row-steps a) allowance)
+    by-if (λ (b : RowAnswer). Is25 (passes b) m → (allowance < row-steps a) × (m ≡ allowance)) (leb (row-steps a) allowance)
     (λ _ q. absurd (other a u m q))
     (λ t q. (nleb→lt (row-steps a) allowance t, sym (ap steps-in q)))
 
 module _ (file : List ℕ) (room m : ℕ) where
-  row-spent : (o : Outcome HeadRow) → Comes file room o → Is25 (on-read o λ r. read (row-answer r)) m → Spent file m
-  unfolding on-read row-answer answerOf answer-in
+  row-spent : (o : Outcome HeadRow) → Comes file room o → Is25 (on-pass o λ r. passes (row-answer r)) m → Spent file m
+  unfolding on-pass row-answer answerOf answer-in
   row-spent (untouched e) c q = let number : refusalOf e .number ≡ 25 = ap number-in q in absurd (omega (arith, bounds 1 6 e c, number))
-  row-spent (read r) c q =
+  row-spent (passes r) c q =
       let h : Head = r .the-head in
       let p = passed (h .allowance) (unlimited (h .language) (h .standard) (h .flag) (kinds-of (r .tokens)) (words-of (r .tokens)))
       (unlimited-unspent (h .language) (h .standard) (h .flag) (kinds-of (r .tokens)) (words-of (r .tokens))) m q in

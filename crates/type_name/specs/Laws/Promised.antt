@@ -24,12 +24,12 @@ use Rattle.reader.specs.Laws.Injective.{records-injective}
 use Rattle.reader.specs.Laws.Bounds.{nesting}
 use Rattle.reader.specs.Laws.Openers.{one-G-each, one-B-each}
 use Rattle.reader.specs.Laws.Groups.{partner, below-each}
-use Rattle.reader.specs.Laws.WrittenOut.{kinds-in, angles-as-often, else-same, same-throughout}
+use Rattle.reader.specs.Laws.WrittenOut.{kinds-in, closing-angles-as-often, else-same, same-throughout}
 use Rattle.type_name.specs.AnswerNumbers.{answer-numbers}
-use Rattle.type_name.specs.FileRow.{Outcome, untouched, read}
+use Rattle.type_name.specs.FileRow.{Outcome, untouched, passes}
 use Rattle.type_name.specs.Answers.{RowAnswer, accepted, refused, outcome, answer-in, answer, filled, buffer-in, final-buffer}
 use Rattle.type_name.specs.Promises.{Answered, Buffered, AcceptedAs, TreeDefined, BracketsOf, tokens-in, WrittenAs, Promised}
-use Rattle.type_name.specs.Laws.Parts.{is-refused, nodes-in, steps-in, one-row}
+use Rattle.type_name.specs.Laws.Fields.{is-refused, nodes-in, steps-in, one-row}
 use Rattle.type_name.specs.Laws.AcceptedRow.{RowRead, FileAccepted, accepted-read, accepted-file}
 use Rattle.type_name.specs.Laws.RowTokens.{kinds-known, worded, same-kinds}
 use Rattle.type_name.specs.Laws.Stable.{comes-back}
@@ -37,11 +37,11 @@ use Rattle.type_name.specs.Laws.Stable.{comes-back}
 -- ---- the tree is the definition's
 
 -- An accepted answer comes of an accepted tree.
-from-answer : (o : Outcome RowAnswer) (nodes steps : ℕ) → answer-in o ≡ Accepted nodes steps → (x : Nodes) × (o ≡ read (accepted x steps)) × (count x ≡ nodes)
+from-answer : (o : Outcome RowAnswer) (nodes steps : ℕ) → answer-in o ≡ Accepted nodes steps → (x : Nodes) × (o ≡ passes (accepted x steps)) × (count x ≡ nodes)
 unfolding answer-in
 from-answer (untouched e) nodes steps q = let clash : _≡_ {A = ℕ} 1 0 = ap is-refused q in absurd (omega (arith, clash))
-from-answer (read (accepted x m)) nodes steps q = (x, ap (λ (k : ℕ). read (accepted x k)) (ap steps-in q), ap nodes-in q)
-from-answer (read (refused e m)) nodes steps q = let clash : _≡_ {A = ℕ} 1 0 = ap is-refused q in absurd (omega (arith, clash))
+from-answer (passes (accepted x m)) nodes steps q = (x, ap (λ (k : ℕ). passes (accepted x k)) (ap steps-in q), ap nodes-in q)
+from-answer (passes (refused e m)) nodes steps q = let clash : _≡_ {A = ℕ} 1 0 = ap is-refused q in absurd (omega (arith, clash))
 
 front : (room : ℕ) (x : Nodes) → take (length (records x)) (filled room (records x)) ≡ records x
 unfolding filled
@@ -74,7 +74,7 @@ module _ (file before : List ℕ) (a : Answer) (after : List ℕ) (answered : An
       let nodes : count x ≡ count y = ap nodes-in (sym (p .answered) ∙ t .accepted-as .answered) in
       let long : length (records x) ≡ length (records y) = omega (arith, three-each x, three-each y, nodes) in
       let same : records y ≡ records x = sym (t .accepted-as .tree-held) ∙ ap (λ (k : ℕ). take k after) (sym long) ∙ p .tree-held in
-      let is-read : outcome file (length before) ≡ read (accepted x steps) = t .defined ∙ ap (λ (z : Nodes). read (accepted z steps)) (records-injective y x same) in
+      let is-read : outcome file (length before) ≡ passes (accepted x steps) = t .defined ∙ ap (λ (z : Nodes). passes (accepted z steps)) (records-injective y x same) in
       let f = accepted-file file (length before) x steps is-read in
       subst (λ (us : List RowToken). FileAccepted file us x steps) (one-row _ (f .0) ts (f .1 .row-is) (p .row-read)) (f .1)
 
@@ -111,7 +111,7 @@ module _ (file : List ℕ) (ts : List RowToken) (x : Nodes) (steps : ℕ) (f : F
       let k : KindsKnown (kinds-in (tokens-in ts)) = rw (same-kinds ts) known in
       let r : reading cpp (kinds-in (tokens-in ts)) ≡ got x (is-read .at) (is-read .half) (f .row-accepted .reading-steps) = rw (same-kinds ts) (is-read .reads) in
       record {
-        angles-as-often = angles-as-often (tokens-in ts) w k cpp r;
+        closing-angles-as-often = closing-angles-as-often (tokens-in ts) w k cpp r;
         else-same = else-same (tokens-in ts) w k cpp r;
         same-throughout = λ none. same-throughout (tokens-in ts) w k cpp r (rw (same-kinds ts) none);
       }

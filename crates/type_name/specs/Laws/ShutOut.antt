@@ -22,9 +22,9 @@ use Rattle.reader.specs.Standing.{tokens-of}
 use Rattle.reader.specs.Written.{Token, sign}
 use Rattle.type_name.specs.Answers.{unlimited, row-steps, answer, filled, final-buffer}
 use Rattle.type_name.specs.Promises.{Answered, Buffered, AcceptedAs, Promised}
-use Rattle.type_name.specs.Lines.{file-line}
+use Rattle.type_name.specs.FirstLines.{file-first-line}
 use Rattle.type_name.specs.StarredRows.{word, int-row, long-long}
-use Rattle.type_name.specs.Laws.Parts.{is-refused, one-row, one-head}
+use Rattle.type_name.specs.Laws.Fields.{is-refused, one-row, one-head}
 use Rattle.type_name.specs.Laws.OnlyThen.{Spent, only-then}
 
 -- ---- readers
@@ -140,12 +140,12 @@ record Works (language standard flag : ℕ) (ts : List Token) (x : Nodes) (steps
 
 -- `int`, C89
 int-works : Works C C89 1 int-row (flat 0 1) 2
-unfolding file-line
+unfolding file-first-line
 int-works = record { formed = refl; row-read = refl; is-answer = refl; is-buffer = refl }
 
 -- `long long`, C99
 long-long-works : Works C C99 1 long-long (flat 0 2) 3
-unfolding file-line
+unfolding file-first-line
 long-long-works = record { formed = refl; row-read = refl; is-answer = refl; is-buffer = refl }
 
 -- `A<b>`, C++17, and its tree
@@ -156,7 +156,7 @@ abbrev list-tree : Nodes
 list-tree = node T-node 0 none (node L-node 1 (node A-node 2 (node T-node 2 none none) none) none)
 
 one-list-works : Works Cpp Cpp17 1 one-list list-tree 5
-unfolding file-line
+unfolding file-first-line
 one-list-works = record { formed = refl; row-read = refl; is-answer = refl; is-buffer = refl }
 
 -- `f(a<b)` and `f(a*b)`, C++17, flag 0, and the tree of both: in the first a list is tried and fails.
@@ -170,11 +170,11 @@ abbrev group-tree : Nodes
 group-tree = node T-node 0 none (node G-node 1 (flat 2 3) none)
 
 tried-works : Works Cpp Cpp17 0 tried group-tree 7
-unfolding file-line
+unfolding file-first-line
 tried-works = record { formed = refl; row-read = refl; is-answer = refl; is-buffer = refl }
 
 untried-works : Works Cpp Cpp17 0 untried group-tree 5
-unfolding file-line
+unfolding file-first-line
 untried-works = record { formed = refl; row-read = refl; is-answer = refl; is-buffer = refl }
 
 -- ---- shut out
@@ -225,7 +225,7 @@ module _ (r : Reader) (m : Meets r) where
 
   -- "the one that returns one tree for all rows"
   pub not-one-tree : OneTree r → ⊥
-  unfolding file-line
+  unfolding file-first-line
   not-one-tree f =
       let one = f .1 _ _ _ _ _ (accepts int-works) in
       let two = f .1 _ _ _ _ _ (accepts long-long-works) in
@@ -235,7 +235,7 @@ module _ (r : Reader) (m : Meets r) where
 
   -- "the one that leaves the buffer unwritten"
   pub leaves-not-unwritten : LeavesUnwritten r → ⊥
-  unfolding file-line
+  unfolding file-first-line
   leaves-not-unwritten f =
       let same = f _ _ _ _ _ (accepts int-works) in
       let clash : _≡_ {A = ℕ} 0 7 = ap (λ (l : List ℕ). getD l 0 0) (sym (leaves int-works) ∙ same) in
@@ -243,7 +243,7 @@ module _ (r : Reader) (m : Meets r) where
 
   -- "the one that reads the first token and copies the rest flat"
   pub copies-not-flat : CopiesFlat r → ⊥
-  unfolding file-line
+  unfolding file-first-line
   copies-not-flat f =
       let same = f _ _ _ _ _ (accepts one-list-works) in
       let clash : _≡_ {A = ℕ} 3 0 = ap (λ (l : List ℕ). getD l 3 0) (sym (leaves one-list-works) ∙ same) in
@@ -259,7 +259,7 @@ module _ (r : Reader) (m : Meets r) where
 
   -- "demand 3 without its tie to demand 2's definition would admit a copy with groups and no lists"
   pub not-without-lists : NoLists r → ⊥
-  unfolding file-line tokens-of
+  unfolding file-first-line tokens-of
   not-without-lists f =
       let clash : _≡_ {A = ℕ} 1 0 = ap length (f _ _ _ _ _ (held one-list-works)) in
       absurd (omega (arith, clash))

@@ -18,10 +18,10 @@ use Rattle.rows.specs.declared.head.Meaning.the-variants.{Means, Unknown}
 use Rattle.rows.specs.declared.head.FileHead.{FileHead}
 use Rattle.rows.specs.declared.head.FileHead.the-variants.{Formed, Refused}
 use Rattle.reader.specs.Nodes.{Nodes, numbers-per-token, count, records}
-use Rattle.type_name.specs.FileRow.{read, on-read}
+use Rattle.type_name.specs.FileRow.{passes, on-pass}
 use Rattle.type_name.specs.Answers.{accepted, answerOf, row-answer, outcome, answer-in, answer, filled, buffer-in, final-buffer}
 use Rattle.type_name.specs.Promises.{NotBelow}
-use Rattle.type_name.specs.Laws.Parts.{one-head}
+use Rattle.type_name.specs.Laws.Fields.{one-head}
 use Rattle.type_name.specs.Laws.FileRow.{row-fits}
 use Rattle.type_name.specs.Laws.AcceptedRow.{RowAccepted, FileAccepted, row-stable}
 use Rattle.type_name.specs.Laws.SameRecords.{records-same}
@@ -71,8 +71,8 @@ module _ (file file′ before′ : List ℕ) (ts : List RowToken) (x : Nodes) (s
       (row-stable (n .head-of .language) (n .head-of .standard) (n .head-of′ .standard) (n .head-of .flag) (kinds-of ts) (words-of ts) (n .head-of′ .allowance) x steps r
       (n .same-or-later) (n .enough))
 
-  same-outcome : outcome file′ (length before′) ≡ read (accepted x steps)
-  unfolding outcome on-read row-answer
+  same-outcome : outcome file′ (length before′) ≡ passes (accepted x steps)
+  unfolding outcome on-pass row-answer
   same-outcome = rw (row-fits file′ (length before′) (n .head-of′) (n .formed′) same-row refl (n .room), same-answer) refl
 
   pub comes-back : (answer file′ (length before′) ≡ Accepted (count x) steps) × (final-buffer file′ before′ ≡ filled (length before′) (records x))

@@ -30,9 +30,9 @@ use Rattle.structure.specs.Said.{Said, holds, fails}
 use Rattle.profile.specs.Profile.{missing-feature}
 use Rattle.profile.specs.declared.profile.Lack.{Lack}
 use Rattle.profile.specs.declared.profile.Lack.the-variants.{Nothing, Lacks}
-use Rattle.type_name.specs.FileRow.{HeadRow, Outcome, untouched, read, on-read, file-row}
-use Rattle.type_name.specs.Answers.{RowAnswer, accepted, refused, on-tree, refusal-of, whole-row, tree-of, after-prescan, row-tree, structure-of, by-structure, by-profile, tree-checked, unlimited, row-steps, limited, answerOf, row-answer, outcome, answer-in, answer, filled, buffer-in, final-buffer}
-use Rattle.type_name.specs.Laws.Parts.{is-refused, number-in, bounds, wider}
+use Rattle.type_name.specs.FileRow.{HeadRow, Outcome, untouched, passes, on-pass, file-row}
+use Rattle.type_name.specs.Answers.{RowAnswer, accepted, refused, on-tree, refusal-of, whole-row, tree-of, after-prescan, row-tree, structure-of, by-structure, by-profile, tree-checked, unlimited, row-steps, answer-within, answerOf, row-answer, outcome, answer-in, answer, filled, buffer-in, final-buffer}
+use Rattle.type_name.specs.Laws.Fields.{is-refused, number-in, bounds, wider}
 use Rattle.type_name.specs.Laws.FileRow.{Comes, file-comes}
 
 -- ---- the numbers
@@ -79,7 +79,7 @@ Unspent (refused e m) = Between 10 23 e ⊎ Between 30 40 e
 
 abbrev Placed : Outcome RowAnswer → Type 0
 Placed (untouched e) = Between 1 6 e
-Placed (read a) = RowPlaced a
+Placed (passes a) = RowPlaced a
 
 in-table : (e : TypeNameError) → Between 10 23 e ⊎ Between 30 40 e → Between 10 40 e
 in-table e (inl q) = wider 10 23 10 40 (omega arith) (omega arith) e q
@@ -89,8 +89,8 @@ unspent-placed : (a : RowAnswer) → Unspent a → RowPlaced a
 unspent-placed (accepted x m) p = tt
 unspent-placed (refused e m) p = in-table e p
 
-limited-placed : (allowance : ℕ) (a : RowAnswer) → Unspent a → RowPlaced (limited allowance a)
-unfolding limited
+limited-placed : (allowance : ℕ) (a : RowAnswer) → Unspent a → RowPlaced (answer-within allowance a)
+unfolding answer-within
 limited-placed allowance a p = by-if RowPlaced (leb (row-steps a) allowance) (λ _. unspent-placed a p) (λ _. tt)
 
 fault-unspent : (e : Fault) (m : ℕ) → FaultNumbered e → Unspent (refused (refusal-of e) m)
@@ -135,10 +135,10 @@ module _ (language standard flag : ℕ) (kinds words : List ℕ) where
   unfolding answerOf
   row-placed allowance = limited-placed allowance (unlimited language standard flag kinds words) unlimited-unspent
 
-read-placed : (file : List ℕ) (room : ℕ) (o : Outcome HeadRow) → Comes file room o → Placed (on-read o λ r. read (row-answer r))
-unfolding on-read row-answer
+read-placed : (file : List ℕ) (room : ℕ) (o : Outcome HeadRow) → Comes file room o → Placed (on-pass o λ r. passes (row-answer r))
+unfolding on-pass row-answer
 read-placed file room (untouched e) c = c
-read-placed file room (read r) c =
+read-placed file room (passes r) c =
     row-placed (r .the-head .language) (r .the-head .standard) (r .the-head .flag) (kinds-of (r .tokens)) (words-of (r .tokens)) (r .the-head .allowance)
 
 outcome-placed : (file : List ℕ) (room : ℕ) → Placed (outcome file room)
@@ -162,10 +162,10 @@ unfolding answer-in buffer-in filled
 buffer-of before (untouched e′) p e m q =
     let same : refusalOf e′ .number ≡ refusalOf e .number = ap number-in q in
     record { kept = λ _. refl; zeroed = λ h. absurd (omega (arith, same, bounds 1 6 e′ p, h)) }
-buffer-of before (read (accepted x n)) p e m q =
+buffer-of before (passes (accepted x n)) p e m q =
     let clash : _≡_ {A = ℕ} 0 1 = ap is-refused q in
     absurd (omega (arith, clash))
-buffer-of before (read (refused e′ n)) p e m q =
+buffer-of before (passes (refused e′ n)) p e m q =
     let same : refusalOf e′ .number ≡ refusalOf e .number = ap number-in q in
     record { kept = λ h. absurd (omega (arith, same, bounds 10 40 e′ p, h)); zeroed = λ _. none-less (length before) }
 

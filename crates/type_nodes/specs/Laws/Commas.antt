@@ -9,26 +9,26 @@ use lib.ListN.{length}
 use lib.Dec.{eqb}
 use borrow.Author.Tests.{eq-eqb, ne-eqb}
 use Rattle.reader.specs.Nodes.{Nodes, none, node, count, node-width, numbers-bound}
-use Rattle.type_nodes.specs.Shapes.{empty, next, shape, prepend, split-on-commas, parts-are-full, is-ellipsis, NoNode}
-use Rattle.type_nodes.specs.Stands.{Stands, Formed, Of, below}
+use Rattle.type_nodes.specs.Shapes.{empty, next, shape, prepend, split-on-commas, elements-are-full, is-ellipsis, NoNode}
+use Rattle.type_nodes.specs.Stands.{Stands, NodesStand, Of, below}
 use Rattle.type_nodes.specs.Laws.Siblings.{first, nothing-left, shape-none, last-empty, unique}
 
 -- ---- commas: `some` tells whether the part at hand has a node already
 
 unfoldable pub full-from : (some : Bool) → List Nodes → Bool
 full-from some [] = true
-full-from some (x ∷ xs) = (some || not (empty x)) && parts-are-full xs
+full-from some (x ∷ xs) = (some || not (empty x)) && elements-are-full xs
 
 pub full-none : (some : Bool) (kinds : List ℕ) (x : Nodes) → x ≡ none → full-from some (split-on-commas kinds x) ≡ some
-unfolding full-from split-on-commas empty parts-are-full
+unfolding full-from split-on-commas empty elements-are-full
 full-none true kinds x e = rw e
 full-none false kinds x e = rw e
 
-pub full-start : (kinds : List ℕ) (x : Nodes) → parts-are-full (split-on-commas kinds x) ≡ full-from false (split-on-commas kinds x)
-unfolding full-from parts-are-full
+pub full-start : (kinds : List ℕ) (x : Nodes) → elements-are-full (split-on-commas kinds x) ≡ full-from false (split-on-commas kinds x)
+unfolding full-from elements-are-full
 full-start kinds x = go (split-on-commas kinds x)
   where
-    go : (l : List Nodes) → parts-are-full l ≡ full-from false l
+    go : (l : List Nodes) → elements-are-full l ≡ full-from false l
     go [] = refl
     go (y ∷ ys) = refl
 
@@ -38,7 +38,7 @@ module _ (kinds : List ℕ) (some : Bool) where
   full-comma none h e = let z : _≡_ {A = ℕ} 0 1 = cc in absurd (omega arith)
   full-comma (node k i b x) h e = rw (eq-eqb _ _ e) (two some ∙ ap (λ (t : Bool). some && t) (full-start kinds x))
     where
-      two : (t : Bool) → (t || false) && parts-are-full (split-on-commas kinds x) ≡ t && parts-are-full (split-on-commas kinds x)
+      two : (t : Bool) → (t || false) && elements-are-full (split-on-commas kinds x) ≡ t && elements-are-full (split-on-commas kinds x)
       two true = refl
       two false = refl
 
@@ -57,10 +57,10 @@ pub record CommaLoop (tree kinds : List ℕ) (from to : ℕ) (some : Bool) (at :
   pub stands : Stands tree kinds at to rest
   pub room : node-width * to ≤ length tree
   pub few : to ≤ numbers-bound
-  pub is : (x : Nodes) → Stands tree kinds from to x → parts-are-full (split-on-commas kinds x) ≡ full-from some (split-on-commas kinds rest)
+  pub is : (x : Nodes) → Stands tree kinds from to x → elements-are-full (split-on-commas kinds x) ≡ full-from some (split-on-commas kinds rest)
 
 module _ {tree kinds : List ℕ} {from to : ℕ} where
-  pub comma-start : Formed tree kinds from to → CommaLoop tree kinds from to false from
+  pub comma-start : NodesStand tree kinds from to → CommaLoop tree kinds from to false from
   comma-start r = record {
     rest = r .nodes;
     stands = r .stands;
@@ -70,14 +70,14 @@ module _ {tree kinds : List ℕ} {from to : ℕ} where
   }
 
   module _ {some : Bool} {at : ℕ} (lp : CommaLoop tree kinds from to some at) where
-    pub comma-formed : Formed tree kinds at to
+    pub comma-formed : NodesStand tree kinds at to
     comma-formed = record { nodes = lp .rest; stands = lp .stands; room = lp .room; few = lp .few }
 
-    pub comma-end : to ≤ at → Of tree kinds from to (λ x. some ≡ parts-are-full (split-on-commas kinds x))
+    pub comma-end : to ≤ at → Of tree kinds from to (λ x. some ≡ elements-are-full (split-on-commas kinds x))
     comma-end h x s = sym (lp .is x s ∙ full-none some kinds (lp .rest) (nothing-left (lp .stands) h))
 
     module _ (h : at < to) {s : ℕ} (sh : Of tree kinds at to (λ x. s ≡ shape kinds x)) where
-      pub comma-bad : s ≡ 12 → some ≡ false → Of tree kinds from to (λ x. false ≡ parts-are-full (split-on-commas kinds x))
+      pub comma-bad : s ≡ 12 → some ≡ false → Of tree kinds from to (λ x. false ≡ elements-are-full (split-on-commas kinds x))
       comma-bad e z x t = sym (lp .is x t ∙ full-comma kinds some (lp .rest) (first (lp .stands) h .full) (sym (sh (lp .rest) (lp .stands)) ∙ e) ∙ rw z)
 
       module _ {e : ℕ} (en : Of tree kinds at to (λ x. e ≡ suc (at + count (below x)))) where
@@ -115,17 +115,17 @@ module _ {tree kinds : List ℕ} {from to : ℕ} where
 
 module _ {tree kinds : List ℕ} where
   -- A shape that is not `NoNode` is that of a node.
-  pub shaped-range : {at to s : ℕ} → Formed tree kinds at to → Of tree kinds at to (λ x. s ≡ shape kinds x) → s < NoNode → at < to
+  pub shaped-range : {at to s : ℕ} → NodesStand tree kinds at to → Of tree kinds at to (λ x. s ≡ shape kinds x) → s < NoNode → at < to
   shaped-range {at} {to} f sh h =
       elim (decLe to at) [
         | yes p ↦ let u = sh (f .nodes) (f .stands) ∙ shape-none (f .stands) p in absurd (omega (arith, u, h))
         | no p ↦ omega arith
       ]
 
-  pub inside-range : {at to s : ℕ} → Formed tree kinds at to → Of tree kinds at to (λ x. s ≡ shape kinds x) → s ≡ 16 → at < to
+  pub inside-range : {at to s : ℕ} → NodesStand tree kinds at to → Of tree kinds at to (λ x. s ≡ shape kinds x) → s ≡ 16 → at < to
   inside-range f sh e = shaped-range f sh (omega (arith, e))
 
-  pub formed-next : {at to e : ℕ} → Formed tree kinds at to → at < to → Of tree kinds at to (λ x. e ≡ suc (at + count (below x))) → Formed tree kinds e to
+  pub formed-next : {at to e : ℕ} → NodesStand tree kinds at to → at < to → Of tree kinds at to (λ x. e ≡ suc (at + count (below x))) → NodesStand tree kinds e to
   formed-next {to = to} f h en = record {
     nodes = next (f .nodes);
     stands = subst (λ (u : ℕ). Stands tree kinds u to (next (f .nodes))) (sym (en (f .nodes) (f .stands))) (first (f .stands) h .rest);

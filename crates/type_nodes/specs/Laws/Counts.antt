@@ -14,7 +14,7 @@ use Rattle.rows.specs.Words.{long}
 use Rattle.rows.specs.Laws.Tests.{or-false, or-assoc}
 use Rattle.type_nodes.specs.Sets.{builtin-type-words, is-c-builtin-type-word}
 use Rattle.type_nodes.specs.Specifiers.{times, has, once-more, how-many, builtin-words, no-builtin-word, too-often, counted-words}
-use Rattle.type_nodes.specs.RepresentedSpecifiers.{Counted}
+use Rattle.type_nodes.specs.RepresentedSpecifiers.{HaveCounts}
 
 unfoldable pub all-counted : List ℕ → Bool
 all-counted [] = true
@@ -28,7 +28,7 @@ pub and-right : (a b : Bool) → (a && b) ≡ true → b ≡ true
 and-right true b e = e
 and-right false b e = absurd (true≢false (sym e))
 
-pub counted : (ws : List ℕ) → all-counted ws ≡ true → Counted ws
+pub counted : (ws : List ℕ) → all-counted ws ≡ true → HaveCounts ws
 unfolding all-counted
 counted [] h i p = absurd (omega arith)
 counted (w ∷ ws) h zero p = ltb-true w counted-words (and-left (ltb w counted-words) (all-counted ws) h)

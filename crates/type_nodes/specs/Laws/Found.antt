@@ -10,7 +10,7 @@ use borrow.Author.Tests.{eq-eqb, ne-eqb}
 use Rattle.reader.specs.Nodes.{Nodes, none, node, count, node-width, numbers-bound}
 use Rattle.type_nodes.specs.Shapes.{empty, next, shape}
 use Rattle.type_nodes.specs.AbstractDeclarators.{any}
-use Rattle.type_nodes.specs.Stands.{Stands, Formed, Of, below}
+use Rattle.type_nodes.specs.Stands.{Stands, NodesStand, Of, below}
 use Rattle.type_nodes.specs.Laws.Siblings.{first, nothing-left, unique}
 
 pub record AnyLoop (tree kinds : List ℕ) (wanted from to at : ℕ) : Type 0 where
@@ -30,7 +30,7 @@ unfolding any
 any-none kinds wanted x e = rw (e)
 
 module _ {tree kinds : List ℕ} {from to : ℕ} where
-  pub any-start : (w : ℕ) → Formed tree kinds from to → AnyLoop tree kinds w from to from
+  pub any-start : (w : ℕ) → NodesStand tree kinds from to → AnyLoop tree kinds w from to from
   any-start w r = record {
     rest = r .nodes;
     stands = r .stands;
@@ -40,7 +40,7 @@ module _ {tree kinds : List ℕ} {from to : ℕ} where
   }
 
 module _ {tree kinds : List ℕ} {wanted from to at : ℕ} (lp : AnyLoop tree kinds wanted from to at) where
-  pub any-formed : Formed tree kinds at to
+  pub any-formed : NodesStand tree kinds at to
   any-formed = record { nodes = lp .rest; stands = lp .stands; room = lp .room; few = lp .few }
 
   pub any-end : to ≤ at → Of tree kinds from to (λ x. false ≡ any kinds wanted x)

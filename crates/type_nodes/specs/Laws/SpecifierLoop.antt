@@ -11,8 +11,8 @@ use Rattle.type_nodes.specs.Shapes.{empty, next, shape, exact-word}
 use Rattle.type_nodes.specs.Moves.{Move, stop, on}
 use Rattle.type_nodes.specs.Sets.{builtin-type-words, is-c-builtin-type-word}
 use Rattle.type_nodes.specs.Specifiers.{Specifiers, times, has, how-many, builtin-words, no-builtin-word, once-more, none-seen, specifiers-end, specifier-node, specifiers-from, validate-c-decl-specifiers, counted-words}
-use Rattle.type_nodes.specs.Stands.{Stands, Ready, Of, below}
-use Rattle.type_nodes.specs.RepresentedSpecifiers.{specifiers-of, specifier-move-of, Known, SpecifierMoves}
+use Rattle.type_nodes.specs.Stands.{Stands, WordedNodes, Of, below}
+use Rattle.type_nodes.specs.RepresentedSpecifiers.{specifiers-of, specifier-move-of, HasCount, SpecifierMoves}
 use Rattle.type_nodes.specs.Laws.Siblings.{first, nothing-left, unique}
 use Rattle.type_nodes.specs.Laws.Counts.{no-builtin-once-more}
 use Rattle.type_nodes.specs.declared.specifiers.SpecifierFlags.{SpecifierFlags}
@@ -57,7 +57,7 @@ module _ (lang : ℕ) (kinds words : List ℕ) where
 
 -- The word that a move counts has a count.
 pub counted-known : {seen : List ℕ} {r : SpecifierMove} {m : Move Specifiers} {v : ℕ} {g : SpecifierFlags} → SpecifierMoves seen r m → r ≡ M.Count v g → v < counted-words
-counted-known {v = v} {g = g} mv q = subst Known q (mv .known)
+counted-known {v = v} {g = g} mv q = subst HasCount q (mv .known)
 
 -- `counts`: no word was seen more often than there are nodes before the node, so the code can count.
 pub record SpecifierLoop (lang : ℕ) (tree kinds words : List ℕ) (from to : ℕ) (seen : List ℕ) (no-builtin : Bool) (f : SpecifierFlags) (lw at : ℕ) : Type 0 where
@@ -72,25 +72,25 @@ pub record SpecifierLoop (lang : ℕ) (tree kinds words : List ℕ) (from to : �
   pub is : (x : Nodes) → Stands tree kinds from to x
       → validate-c-decl-specifiers lang kinds words x ≡ specifiers-from lang kinds words rest lw (specifiers-of seen f)
 
-pub specifiers-start : (lang : ℕ) {tree kinds words : List ℕ} {from to : ℕ} → Ready tree kinds words from to
+pub specifiers-start : (lang : ℕ) {tree kinds words : List ℕ} {from to : ℕ} → WordedNodes tree kinds words from to
     → SpecifierLoop lang tree kinds words from to (replicate counted-words 0) true (record { named = false; elaborated = false; «bit_int» = false; scoped = false }) 0 from
 unfolding validate-c-decl-specifiers none-seen no-builtin-word builtin-words builtin-type-words how-many has times
 specifiers-start lang r = record {
-  rest = r .formed .nodes;
-  stands = r .formed .stands;
-  room = r .formed .room;
-  few = r .formed .few;
+  rest = r .nodes-stand .nodes;
+  stands = r .nodes-stand .stands;
+  room = r .nodes-stand .room;
+  few = r .nodes-stand .few;
   worded = r .worded;
   counts = λ w. omega (arith, zeros counted-words w);
   sized = refl;
   kept = refl;
-  is = λ x s. rw (unique s (r .formed .stands)) refl;
+  is = λ x s. rw (unique s (r .nodes-stand .stands)) refl;
 }
 
 module _ {lang : ℕ} {tree kinds words : List ℕ} {from to : ℕ} {seen : List ℕ} {no-builtin : Bool} {f : SpecifierFlags} {lw at : ℕ}
     (lp : SpecifierLoop lang tree kinds words from to seen no-builtin f lw at) where
-  pub specifiers-ready : Ready tree kinds words at to
-  specifiers-ready = record { formed = record { nodes = lp .rest; stands = lp .stands; room = lp .room; few = lp .few }; worded = lp .worded }
+  pub specifiers-ready : WordedNodes tree kinds words at to
+  specifiers-ready = record { nodes-stand = record { nodes = lp .rest; stands = lp .stands; room = lp .room; few = lp .few }; worded = lp .worded }
 
   pub specifiers-left : to ≤ at → {r : Bool} → r ≡ specifiers-end (specifiers-of seen f) → Of tree kinds from to (λ x. r ≡ validate-c-decl-specifiers lang kinds words x)
   specifiers-left h e x s = e ∙ sym (lp .is x s ∙ from-none lang kinds words (lp .rest) lw (specifiers-of seen f) (nothing-left (lp .stands) h))
@@ -108,8 +108,8 @@ module _ {lang : ℕ} {tree kinds words : List ℕ} {from to : ℕ} {seen : List
     after-it : Stands tree kinds e to (next (lp .rest))
     after-it = subst (λ (u : ℕ). Stands tree kinds u to (next (lp .rest))) (sym (en (lp .rest) (lp .stands))) (first (lp .stands) h .rest)
 
-    pub specifiers-ready-next : Ready tree kinds words e to
-    specifiers-ready-next = record { formed = record { nodes = next (lp .rest); stands = after-it; room = lp .room; few = lp .few }; worded = lp .worded }
+    pub specifiers-ready-next : WordedNodes tree kinds words e to
+    specifiers-ready-next = record { nodes-stand = record { nodes = next (lp .rest); stands = after-it; room = lp .room; few = lp .few }; worded = lp .worded }
 
     module _ {s w right second : ℕ} {r : SpecifierMove}
         (wd : Of tree kinds at to (λ x. w ≡ exact-word kinds words x)) (sh : Of tree kinds at to (λ x. s ≡ shape kinds x))

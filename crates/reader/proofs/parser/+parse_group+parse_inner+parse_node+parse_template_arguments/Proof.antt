@@ -8,8 +8,8 @@ use native.Mathlib.Omega.{arith}
 use borrow.Author.Needs.{needs}
 use lib.ListN.{length, length-append, length-take, length-drop}
 use Rattle.reader.specs.Reading.{list}
-use Rattle.reader.specs.Tables.{level-of}
-use Rattle.reader.specs.ReaderSays.{level-due}
+use Rattle.reader.specs.Tables.{region-of}
+use Rattle.reader.specs.ReaderSays.{region-due}
 use Rattle.reader.specs.Laws.Tokens.{inside}
 use Rattle.reader.specs.Laws.Ahead.{down-deep}
 use Rattle.reader.specs.Laws.GroupWays.{GroupLoop, node-found, node-finds-so, group-told, group-begins, node-here, planned-so, group-ends, group-stops, group-node-stops, group-again}
@@ -32,7 +32,7 @@ use Rattle.reader.proofs.parser.parse_template_arguments.Kinds as parse
 use Rattle.reader.proofs.parser.+parse_group+parse_inner+parse_node+parse_template_arguments.Lts-parse_template_arguments as parse-template-arguments-lts
 use Rattle.reader.proofs.nodes.put_node.Reads as put-node-reads
 use Rattle.reader.proofs.parser.TypeSyntaxParser.past.Reads as past-reads
-use Rattle.reader.proofs.parser.listing_of.Reads as listing-of-reads
+use Rattle.reader.proofs.parser.list_reading_of.Reads as list-reading-of-reads
 use Rattle.reader.proofs.parser.parse_token.Reads as parse-token-reads
 use Rattle.reader.proofs.parser.put_above.Reads as put-above-reads
 use Rattle.reader.proofs.parser.take_angle_close.Reads as take-angle-close-reads
@@ -103,7 +103,7 @@ parse-template-arguments-below t =
     parse-template-arguments.Pre
 
 abbrev parse-group-Inv-loop : parse-group-lts.InvT-loop
-parse-group-Inv-loop kinds cpp tree₀ end lists nesting now₀ word₀ nodes₀ tree now word nodes = GroupLoop cpp kinds tree₀ (level-of end) lists nesting now₀ tree now word nodes
+parse-group-Inv-loop kinds cpp tree₀ end lists nesting now₀ word₀ nodes₀ tree now word nodes = GroupLoop cpp kinds tree₀ (region-of end) lists nesting now₀ tree now word nodes
 
 abbrev parse-group-μ-loop : parse-group-lts.MeasureT-loop
 parse-group-μ-loop kinds cpp tree₀ end lists nesting now₀ word₀ nodes₀ tree now word nodes = length kinds - now .cursor
@@ -359,7 +359,7 @@ abbrev parse-template-arguments-μ-arguments : parse-template-arguments-lts.Meas
 parse-template-arguments-μ-arguments kinds cpp tree₀ lists nesting now₀ nodes₀ tree now nodes = length kinds - now .cursor
 
 abbrev parse-template-arguments-calls : ℕ → parse-template-arguments-lts.Claims
-parse-template-arguments-calls t = (kind-at-reads.Asked, kind-at-reads.Learnt, is-angle-close-reads.Asked, is-angle-close-reads.Learnt, argument-ends-reads.Asked, argument-ends-reads.Learnt, parse-node-below t, parse-node.Post, listing-of-reads.Asked, listing-of-reads.Learnt, put-node-reads.Asked, put-node-reads.Learnt, take-angle-close-reads.Asked, take-angle-close-reads.Learnt)
+parse-template-arguments-calls t = (kind-at-reads.Asked, kind-at-reads.Learnt, is-angle-close-reads.Asked, is-angle-close-reads.Learnt, argument-ends-reads.Asked, argument-ends-reads.Learnt, parse-node-below t, parse-node.Post, list-reading-of-reads.Asked, list-reading-of-reads.Learnt, put-node-reads.Asked, put-node-reads.Learnt, take-angle-close-reads.Asked, take-angle-close-reads.Learnt)
 
 parse-template-arguments-returns : (t : ℕ) → parse-template-arguments-lts.Need-returns (parse-template-arguments-calls t)
     (parse-template-arguments-at t)
@@ -535,15 +535,15 @@ parse-template-arguments-enum-told : (t : ℕ) → parse-template-arguments-lts.
     parse-template-arguments-μ-arguments
 parse-template-arguments-enum-told t c = search needs
 
-parse-template-arguments-listing-of-requires :
-    (t : ℕ) → parse-template-arguments-lts.Need-listing-of-requires (parse-template-arguments-calls t)
+parse-template-arguments-list-reading-of-requires :
+    (t : ℕ) → parse-template-arguments-lts.Need-list-reading-of-requires (parse-template-arguments-calls t)
     (parse-template-arguments-at t)
     parse-template-arguments.Post
     parse-template-arguments-Inv-nodes
     parse-template-arguments-μ-nodes
     parse-template-arguments-Inv-arguments
     parse-template-arguments-μ-arguments
-parse-template-arguments-listing-of-requires t c κs = search needs
+parse-template-arguments-list-reading-of-requires t c κs = search needs
 
 parse-template-arguments-same-length : (t : ℕ) → parse-template-arguments-lts.Need-same-length (parse-template-arguments-calls t)
     (parse-template-arguments-at t)
@@ -561,7 +561,7 @@ parse-template-arguments-returns-2 : (t : ℕ) → parse-template-arguments-lts.
     parse-template-arguments-μ-nodes
     parse-template-arguments-Inv-arguments
     parse-template-arguments-μ-arguments
-parse-template-arguments-returns-2 t c = list-node-stops (c .before .before .before .before .before .before .before .before .before .before .before .before .before .before .before .arguments .inv) (omega arith) (closes-so _ _ (c .before .before .before .before .before .before .before .before .before .before .before .before .before .before .kind-at .ensures) (c .before .before .before .before .before .before .before .before .before .before .before .before .before .is-angle-close .ensures) (c .before .before .before .before .before .before .before .before .before .before .before .before .if2 .left)) (c .before .before .before .before .before .before .before .before .before .before .before .nodes .inv) (ends-so _ _ (c .before .before .before .before .before .before .before .before .before .before .kind-at2 .ensures) (c .before .before .before .before .before .before .before .before .before .argument-ends .ensures) (c .before .before .before .before .before .before .before .before .if3 .left)) (λ e. c .before .before .before .before .before .before .before .if4 .left (c .before .before .before .before .before .before .before .before .before .before .kind-at2 .ensures ∙ e)) (c .before .enum-told .given .1) (c .before .before .before .before .before .parse-node .ensures) (c .listing-of .ensures)
+parse-template-arguments-returns-2 t c = list-node-stops (c .before .before .before .before .before .before .before .before .before .before .before .before .before .before .before .arguments .inv) (omega arith) (closes-so _ _ (c .before .before .before .before .before .before .before .before .before .before .before .before .before .before .kind-at .ensures) (c .before .before .before .before .before .before .before .before .before .before .before .before .before .is-angle-close .ensures) (c .before .before .before .before .before .before .before .before .before .before .before .before .if2 .left)) (c .before .before .before .before .before .before .before .before .before .before .before .nodes .inv) (ends-so _ _ (c .before .before .before .before .before .before .before .before .before .before .kind-at2 .ensures) (c .before .before .before .before .before .before .before .before .before .argument-ends .ensures) (c .before .before .before .before .before .before .before .before .if3 .left)) (λ e. c .before .before .before .before .before .before .before .if4 .left (c .before .before .before .before .before .before .before .before .before .before .kind-at2 .ensures ∙ e)) (c .before .enum-told .given .1) (c .before .before .before .before .before .parse-node .ensures) (c .list-reading-of .ensures)
 
 parse-template-arguments-add-inner : (t : ℕ) → parse-template-arguments-lts.Need-add-inner (parse-template-arguments-calls t)
     (parse-template-arguments-at t)
@@ -706,7 +706,7 @@ parse-template-arguments-arguments-again t c = arguments-again (c .before .befor
 
 -- How the arguments end, wherever their loop is left.
 ended : (t : ℕ) (c : parse-template-arguments-lts.Joined2 (parse-template-arguments-calls t) (parse-template-arguments-at t) parse-template-arguments.Post parse-template-arguments-Inv-nodes parse-template-arguments-μ-nodes parse-template-arguments-Inv-arguments parse-template-arguments-μ-arguments)
-    → Ended (c .before .before .before .before .before .before .before .args .kinds .now) (c .before .before .before .before .before .before .before .args .tree .now) (c .before .before .before .before .before .before .before .args .parser .cursor) (level-due (c .before .before .before .before .before .before .before .args .cpp) (c .before .before .before .before .before .before .before .args .kinds .now) list (c .before .before .before .before .before .before .before .args .lists) (c .before .before .before .before .before .before .before .args .nesting) (c .before .before .before .before .before .before .before .args .parser)) (c .if2 .tree) (c .if2 .now) (c .if2 .nodes) (c .if2 .outcome)
+    → Ended (c .before .before .before .before .before .before .before .args .kinds .now) (c .before .before .before .before .before .before .before .args .tree .now) (c .before .before .before .before .before .before .before .args .parser .cursor) (region-due (c .before .before .before .before .before .before .before .args .cpp) (c .before .before .before .before .before .before .before .args .kinds .now) list (c .before .before .before .before .before .before .before .args .lists) (c .before .before .before .before .before .before .before .args .nesting) (c .before .before .before .before .before .before .before .args .parser)) (c .if2 .tree) (c .if2 .now) (c .if2 .nodes) (c .if2 .outcome)
 ended t c =
     let outer = c .before .before .before .arguments .inv in
     let ready = c .before .before .before .before .before .before .before .pre .1 in
@@ -927,7 +927,7 @@ pub +parse-group+parse-inner+parse-node+parse-template-arguments-spec : {M : Typ
     (parse-template-arguments-parse-node-requires t)
     (parse-template-arguments-enum-known-read t)
     (parse-template-arguments-enum-told t)
-    (parse-template-arguments-listing-of-requires t)
+    (parse-template-arguments-list-reading-of-requires t)
     (parse-template-arguments-same-length t)
     (parse-template-arguments-returns-2 t)
     (parse-template-arguments-add-inner t)

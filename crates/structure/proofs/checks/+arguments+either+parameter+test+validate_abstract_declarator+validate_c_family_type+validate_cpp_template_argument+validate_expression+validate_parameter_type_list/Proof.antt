@@ -13,12 +13,12 @@ use Rattle.structure.specs.Declarators.{type-end, declarator-end}
 use Rattle.structure.specs.Structure.{checked, test, validate-cpp-template-argument, validate-parameter, validate-parameter-type-list}
 use Rattle.structure.specs.Laws.Limits.{not-holds, not-fails}
 use Rattle.structure.specs.Laws.Walks.{walk-start, walk-formed, walk-stops, walk-holds, walk-further, walk-fits, walk-below, walk-after}
-use Rattle.structure.specs.Laws.Runs.{entry-spent, entry, head-fails, head-holds, run-start, run-end, run-stop, run-on, run-stops, run-inside}
+use Rattle.structure.specs.Laws.Loops.{entry-spent, entry, head-fails, head-holds, run-start, run-end, run-stop, run-on, run-stops, run-inside}
 use Rattle.structure.specs.Laws.Checks.{InType, InDeclarator, InExpression, type-entry, declarator-entry, expression-entry, no-word-before, type-moved}
 use Rattle.structure.specs.Laws.Checks.{declarator-moved, expression-moved, waits-on, waits-inside}
 use Rattle.structure.specs.Laws.Inside.{empty-of, full-of, no-node, some-node, no-bound, bound-of, by-name, either-held, either-else, both-failed, both-then}
 use Rattle.structure.specs.Laws.Inside.{first-settles, then-second, told, inside-declarator, group-declarator, group-parameters, parameters-start}
-use Rattle.structure.specs.Laws.Every.{InParts, InArguments, parts-past, parts-fit, parts-ready, parts-comma, parts-turn, parts-last, parts-next, arguments-end}
+use Rattle.structure.specs.Laws.Every.{InElements, InArguments, elements-past, elements-fit, elements-ready, elements-comma, elements-turn, elements-last, elements-next, arguments-end}
 use Rattle.structure.specs.Laws.Every.{arguments-turn}
 use Prim.Native.Nat.{ℕ, _<_}
 use borrow.Fn.Kinds.{In}
@@ -62,8 +62,8 @@ use Rattle.type_nodes.proofs.nodes.node_end.Reads as node-end-reads
 use Rattle.type_nodes.proofs.nodes.shape_at.Reads as shape-at-reads
 use Rattle.type_nodes.proofs.specifiers.exact_word.Reads as exact-word-reads
 use Rattle.type_nodes.proofs.specifiers.validate_c_decl_specifiers.Reads as validate-c-decl-specifiers-reads
-use Rattle.type_nodes.proofs.split_on_commas.part_end.Reads as part-end-reads
-use Rattle.type_nodes.proofs.split_on_commas.parts_are_full.Reads as parts-are-full-reads
+use Rattle.type_nodes.proofs.split_on_commas.element_end.Reads as element-end-reads
+use Rattle.type_nodes.proofs.split_on_commas.elements_are_full.Reads as elements-are-full-reads
 use Rattle.structure.proofs.checks.+arguments+either+parameter+test+validate_abstract_declarator+validate_c_family_type+validate_cpp_template_argument+validate_expression+validate_parameter_type_list.{
   statement,
 }
@@ -215,7 +215,7 @@ arguments-calls t = (node-end-reads.Asked, node-end-reads.Learnt, validate-cpp-t
 
 arguments-loop-holds : (t : ℕ) → arguments-lts.Need-loop-holds (arguments-calls t) (arguments-at t) arguments.Post arguments-Inv-loop arguments-μ-loop
 unfolding test
-arguments-loop-holds t c = walk-start _ (c .before .before .before .pre .1 .formed) (λ x s. refl)
+arguments-loop-holds t c = walk-start _ (c .before .before .before .pre .1 .nodes-stand) (λ x s. refl)
 
 arguments-node-end-requires : (t : ℕ) → arguments-lts.Need-node-end-requires (arguments-calls t) (arguments-at t) arguments.Post arguments-Inv-loop arguments-μ-loop
 arguments-node-end-requires t c κs = (omega arith, walk-formed (c .before .loop .inv))
@@ -267,7 +267,7 @@ abbrev parameter-calls : ℕ → parameter-lts.Claims
 parameter-calls t = (is-ellipsis-reads.Asked, is-ellipsis-reads.Learnt, validate-c-family-type-below t, validate-c-family-type.Post)
 
 parameter-is-ellipsis-requires : (t : ℕ) → parameter-lts.Need-is-ellipsis-requires (parameter-calls t) (parameter-at t) parameter.Post
-parameter-is-ellipsis-requires t c κs = c .before .before .before .pre .1 .formed
+parameter-is-ellipsis-requires t c κs = c .before .before .before .pre .1 .nodes-stand
 
 parameter-returns : (t : ℕ) → parameter-lts.Need-returns (parameter-calls t) (parameter-at t) parameter.Post
 unfolding validate-parameter
@@ -349,7 +349,7 @@ unfolding test
 test-returns-8 t c = told _ _ (c .before .enum-told6 .given .1) (either-held _ _ (λ x. refl) (no-bound (c .if3 .taken)))
 
 test-is-single-token-requires : (t : ℕ) → test-lts.Need-is-single-token-requires (test-calls t) (test-at t) test.Post
-test-is-single-token-requires t c κs = (omega arith, c .before .before .before .before .before .before .pre .1 .formed)
+test-is-single-token-requires t c κs = (omega arith, c .before .before .before .before .before .before .pre .1 .nodes-stand)
 
 test-returns-9 : (t : ℕ) → test-lts.Need-returns-9 (test-calls t) (test-at t) test.Post
 unfolding test
@@ -386,7 +386,7 @@ test-enum-known-inner t c = search needs
 
 test-looks-like-abstract-declarator-requires :
     (t : ℕ) → test-lts.Need-looks-like-abstract-declarator-requires (test-calls t) (test-at t) test.Post
-test-looks-like-abstract-declarator-requires t c κs = c .before .before .before .before .before .before .pre .1 .formed
+test-looks-like-abstract-declarator-requires t c κs = c .before .before .before .before .before .before .pre .1 .nodes-stand
 
 test-validate-abstract-declarator-requires-2 :
     (t : ℕ) → test-lts.Need-validate-abstract-declarator-requires-2 (test-calls t) (test-at t) test.Post
@@ -434,7 +434,7 @@ validate-abstract-declarator-loop-holds :
     validate-abstract-declarator.Post
     validate-abstract-declarator-Inv-loop
     validate-abstract-declarator-μ-loop
-validate-abstract-declarator-loop-holds t c = run-start refl (c .before .before .before .before .pre .1 .formed) (entry _ (declarator-entry _ _ _) (omega arith))
+validate-abstract-declarator-loop-holds t c = run-start refl (c .before .before .before .before .pre .1 .nodes-stand) (entry _ (declarator-entry _ _ _) (omega arith))
 
 validate-abstract-declarator-shape-at-requires :
     (t : ℕ) → validate-abstract-declarator-lts.Need-shape-at-requires (validate-abstract-declarator-calls t)
@@ -450,7 +450,7 @@ validate-abstract-declarator-exact-word-requires :
     validate-abstract-declarator.Post
     validate-abstract-declarator-Inv-loop
     validate-abstract-declarator-μ-loop
-validate-abstract-declarator-exact-word-requires t c κs = record { formed = walk-formed (c .before .before .loop .inv .walk); worded = c .before .before .before .before .before .before .before .pre .1 .worded }
+validate-abstract-declarator-exact-word-requires t c κs = record { nodes-stand = walk-formed (c .before .before .loop .inv .walk); worded = c .before .before .before .before .before .before .before .pre .1 .worded }
 
 validate-abstract-declarator-node-end-requires :
     (t : ℕ) → validate-abstract-declarator-lts.Need-node-end-requires (validate-abstract-declarator-calls t)
@@ -689,7 +689,7 @@ validate-c-family-type-loop-holds : (t : ℕ) → validate-c-family-type-lts.Nee
     validate-c-family-type.Post
     validate-c-family-type-Inv-loop
     validate-c-family-type-μ-loop
-validate-c-family-type-loop-holds t c = run-start (refl, no-word-before) (c .before .before .before .before .before .before .pre .1 .formed) (head-holds _ _ (type-entry _ _ _) (omega arith) (c .before .validate-c-decl-specifiers .ensures) (not-false _ (c .if2 .left)))
+validate-c-family-type-loop-holds t c = run-start (refl, no-word-before) (c .before .before .before .before .before .before .pre .1 .nodes-stand) (head-holds _ _ (type-entry _ _ _) (omega arith) (c .before .validate-c-decl-specifiers .ensures) (not-false _ (c .if2 .left)))
 
 validate-c-family-type-shape-at-requires :
     (t : ℕ) → validate-c-family-type-lts.Need-shape-at-requires (validate-c-family-type-calls t)
@@ -705,7 +705,7 @@ validate-c-family-type-exact-word-requires :
     validate-c-family-type.Post
     validate-c-family-type-Inv-loop
     validate-c-family-type-μ-loop
-validate-c-family-type-exact-word-requires t c κs = record { formed = walk-formed (c .before .before .loop .inv .walk); worded = c .before .before .before .before .before .before .before .before .before .pre .1 .worded }
+validate-c-family-type-exact-word-requires t c κs = record { nodes-stand = walk-formed (c .before .before .loop .inv .walk); worded = c .before .before .before .before .before .before .before .before .before .pre .1 .worded }
 
 validate-c-family-type-node-end-requires :
     (t : ℕ) → validate-c-family-type-lts.Need-node-end-requires (validate-c-family-type-calls t)
@@ -887,7 +887,7 @@ validate-expression-loop-holds : (t : ℕ) → validate-expression-lts.Need-loop
     validate-expression.Post
     validate-expression-Inv-loop
     validate-expression-μ-loop
-validate-expression-loop-holds t c = run-start (omega arith) (c .before .before .before .before .pre .1 .formed) (entry _ (expression-entry _ _ _) (omega arith))
+validate-expression-loop-holds t c = run-start (omega arith) (c .before .before .before .before .pre .1 .nodes-stand) (entry _ (expression-entry _ _ _) (omega arith))
 
 validate-expression-shape-at-requires : (t : ℕ) → validate-expression-lts.Need-shape-at-requires (validate-expression-calls t)
     (validate-expression-at t)
@@ -1025,13 +1025,13 @@ validate-expression-returns-4 : (t : ℕ) → validate-expression-lts.Need-retur
 validate-expression-returns-4 t c = run-end (c .before .before .before .loop .inv) (omega arith) (c .plain2 .ensures ∙ rw (c .before .expression-end .ensures))
 
 abbrev validate-parameter-type-list-Inv-loop : validate-parameter-type-list-lts.InvT-loop
-validate-parameter-type-list-Inv-loop language tree kinds words from to allowed left₀ at₀ left at = InParts (validate-parameter language kinds words (checked language kinds words)) (validate-parameter-type-list language kinds words (checked language kinds words)) tree kinds from to allowed left at
+validate-parameter-type-list-Inv-loop language tree kinds words from to allowed left₀ at₀ left at = InElements (validate-parameter language kinds words (checked language kinds words)) (validate-parameter-type-list language kinds words (checked language kinds words)) tree kinds from to allowed left at
 
 abbrev validate-parameter-type-list-μ-loop : validate-parameter-type-list-lts.MeasureT-loop
 validate-parameter-type-list-μ-loop language tree kinds words from to allowed left₀ at₀ left at = to - at
 
 abbrev validate-parameter-type-list-calls : ℕ → validate-parameter-type-list-lts.Claims
-validate-parameter-type-list-calls t = (parts-are-full-reads.Asked, parts-are-full-reads.Learnt, part-end-reads.Asked, part-end-reads.Learnt, parameter-below t, parameter.Post, node-end-reads.Asked, node-end-reads.Learnt)
+validate-parameter-type-list-calls t = (elements-are-full-reads.Asked, elements-are-full-reads.Learnt, element-end-reads.Asked, element-end-reads.Learnt, parameter-below t, parameter.Post, node-end-reads.Asked, node-end-reads.Learnt)
 
 validate-parameter-type-list-returns : (t : ℕ) → validate-parameter-type-list-lts.Need-returns (validate-parameter-type-list-calls t)
     (validate-parameter-type-list-at t)
@@ -1041,13 +1041,13 @@ validate-parameter-type-list-returns : (t : ℕ) → validate-parameter-type-lis
 unfolding validate-parameter-type-list
 validate-parameter-type-list-returns t c = either-held _ _ (λ x. refl) (empty-of (c .if1 .taken))
 
-validate-parameter-type-list-parts-are-full-requires :
-    (t : ℕ) → validate-parameter-type-list-lts.Need-parts-are-full-requires (validate-parameter-type-list-calls t)
+validate-parameter-type-list-elements-are-full-requires :
+    (t : ℕ) → validate-parameter-type-list-lts.Need-elements-are-full-requires (validate-parameter-type-list-calls t)
     (validate-parameter-type-list-at t)
     validate-parameter-type-list.Post
     validate-parameter-type-list-Inv-loop
     validate-parameter-type-list-μ-loop
-validate-parameter-type-list-parts-are-full-requires t c κs = c .before .before .before .before .pre .1 .formed
+validate-parameter-type-list-elements-are-full-requires t c κs = c .before .before .before .before .pre .1 .nodes-stand
 
 validate-parameter-type-list-returns-2 : (t : ℕ) → validate-parameter-type-list-lts.Need-returns-2 (validate-parameter-type-list-calls t)
     (validate-parameter-type-list-at t)
@@ -1055,7 +1055,7 @@ validate-parameter-type-list-returns-2 : (t : ℕ) → validate-parameter-type-l
     validate-parameter-type-list-Inv-loop
     validate-parameter-type-list-μ-loop
 unfolding validate-parameter-type-list
-validate-parameter-type-list-returns-2 t c = either-else _ _ (λ x. refl) (full-of (c .before .before .if1 .left)) (both-failed _ _ (λ x. refl) (λ x s. sym (not-true _ (c .if2 .taken)) ∙ c .before .parts-are-full .ensures x s))
+validate-parameter-type-list-returns-2 t c = either-else _ _ (λ x. refl) (full-of (c .before .before .if1 .left)) (both-failed _ _ (λ x. refl) (λ x s. sym (not-true _ (c .if2 .taken)) ∙ c .before .elements-are-full .ensures x s))
 
 validate-parameter-type-list-loop-holds :
     (t : ℕ) → validate-parameter-type-list-lts.Need-loop-holds (validate-parameter-type-list-calls t)
@@ -1063,15 +1063,15 @@ validate-parameter-type-list-loop-holds :
     validate-parameter-type-list.Post
     validate-parameter-type-list-Inv-loop
     validate-parameter-type-list-μ-loop
-validate-parameter-type-list-loop-holds t c = walk-start _ (c .before .before .before .before .before .before .pre .1 .formed) (parameters-start _ _ (c .before .before .if1 .left) (c .before .parts-are-full .ensures) (not-false _ (c .if2 .left)) _)
+validate-parameter-type-list-loop-holds t c = walk-start _ (c .before .before .before .before .before .before .pre .1 .nodes-stand) (parameters-start _ _ (c .before .before .if1 .left) (c .before .elements-are-full .ensures) (not-false _ (c .if2 .left)) _)
 
-validate-parameter-type-list-part-end-requires :
-    (t : ℕ) → validate-parameter-type-list-lts.Need-part-end-requires (validate-parameter-type-list-calls t)
+validate-parameter-type-list-element-end-requires :
+    (t : ℕ) → validate-parameter-type-list-lts.Need-element-end-requires (validate-parameter-type-list-calls t)
     (validate-parameter-type-list-at t)
     validate-parameter-type-list.Post
     validate-parameter-type-list-Inv-loop
     validate-parameter-type-list-μ-loop
-validate-parameter-type-list-part-end-requires t c κs = walk-formed (c .loop .inv)
+validate-parameter-type-list-element-end-requires t c κs = walk-formed (c .loop .inv)
 
 validate-parameter-type-list-parameter-requires :
     (t : ℕ) → validate-parameter-type-list-lts.Need-parameter-requires (validate-parameter-type-list-calls t)
@@ -1079,7 +1079,7 @@ validate-parameter-type-list-parameter-requires :
     validate-parameter-type-list.Post
     validate-parameter-type-list-Inv-loop
     validate-parameter-type-list-μ-loop
-validate-parameter-type-list-parameter-requires t c κs = (omega (arith, parts-past _ (c .before .loop .inv) (c .part-end .ensures), parts-fit _ (c .before .loop .inv) (c .part-end .ensures), c .before .loop .inv .past, c .before .before .before .before .before .before .before .before .pre .0), parts-ready _ (c .before .loop .inv) (c .part-end .ensures) (c .before .before .before .before .before .before .before .before .pre .1 .worded))
+validate-parameter-type-list-parameter-requires t c κs = (omega (arith, elements-past _ (c .before .loop .inv) (c .element-end .ensures), elements-fit _ (c .before .loop .inv) (c .element-end .ensures), c .before .loop .inv .past, c .before .before .before .before .before .before .before .before .pre .0), elements-ready _ (c .before .loop .inv) (c .element-end .ensures) (c .before .before .before .before .before .before .before .before .pre .1 .worded))
 
 validate-parameter-type-list-enum-known-said :
     (t : ℕ) → validate-parameter-type-list-lts.Need-enum-known-said (validate-parameter-type-list-calls t)
@@ -1094,14 +1094,14 @@ validate-parameter-type-list-returns-3 : (t : ℕ) → validate-parameter-type-l
     validate-parameter-type-list.Post
     validate-parameter-type-list-Inv-loop
     validate-parameter-type-list-μ-loop
-validate-parameter-type-list-returns-3 t c = walk-stops (c .before .before .before .loop .inv) (parts-turn _ (c .before .before .before .loop .inv) (c .before .before .part-end .ensures)) (c .before .parameter .ensures) (not-holds (tagOf the-type) (λ l. refl) _ (c .match .keys2))
+validate-parameter-type-list-returns-3 t c = walk-stops (c .before .before .before .loop .inv) (elements-turn _ (c .before .before .before .loop .inv) (c .before .before .element-end .ensures)) (c .before .parameter .ensures) (not-holds (tagOf the-type) (λ l. refl) _ (c .match .keys2))
 
 validate-parameter-type-list-returns-4 : (t : ℕ) → validate-parameter-type-list-lts.Need-returns-4 (validate-parameter-type-list-calls t)
     (validate-parameter-type-list-at t)
     validate-parameter-type-list.Post
     validate-parameter-type-list-Inv-loop
     validate-parameter-type-list-μ-loop
-validate-parameter-type-list-returns-4 t c = parts-last _ (walk-holds (c .before .before .before .before .before .before .loop .inv) (parts-turn _ (c .before .before .before .before .before .before .loop .inv) (c .before .before .before .before .before .part-end .ensures)) (c .before .before .before .before .parameter .ensures) (c .before .before .said .given .1)) (c .if3 .taken)
+validate-parameter-type-list-returns-4 t c = elements-last _ (walk-holds (c .before .before .before .before .before .before .loop .inv) (elements-turn _ (c .before .before .before .before .before .before .loop .inv) (c .before .before .before .before .before .element-end .ensures)) (c .before .before .before .before .parameter .ensures) (c .before .before .said .given .1)) (c .if3 .taken)
 
 validate-parameter-type-list-node-end-requires :
     (t : ℕ) → validate-parameter-type-list-lts.Need-node-end-requires (validate-parameter-type-list-calls t)
@@ -1109,14 +1109,14 @@ validate-parameter-type-list-node-end-requires :
     validate-parameter-type-list.Post
     validate-parameter-type-list-Inv-loop
     validate-parameter-type-list-μ-loop
-validate-parameter-type-list-node-end-requires t c κs = (omega (arith, parts-fit _ (c .before .before .before .before .before .before .loop .inv) (c .before .before .before .before .before .part-end .ensures), c .if3 .left), parts-comma _ (c .before .before .before .before .before .before .loop .inv) (c .before .before .before .before .before .part-end .ensures))
+validate-parameter-type-list-node-end-requires t c κs = (omega (arith, elements-fit _ (c .before .before .before .before .before .before .loop .inv) (c .before .before .before .before .before .element-end .ensures), c .if3 .left), elements-comma _ (c .before .before .before .before .before .before .loop .inv) (c .before .before .before .before .before .element-end .ensures))
 
 validate-parameter-type-list-loop-less : (t : ℕ) → validate-parameter-type-list-lts.Need-loop-less (validate-parameter-type-list-calls t)
     (validate-parameter-type-list-at t)
     validate-parameter-type-list.Post
     validate-parameter-type-list-Inv-loop
     validate-parameter-type-list-μ-loop
-validate-parameter-type-list-loop-less t c = omega (arith, parts-past _ (c .before .before .before .before .before .before .before .loop .inv) (c .before .before .before .before .before .before .part-end .ensures), walk-further (walk-holds (c .before .before .before .before .before .before .before .loop .inv) (parts-turn _ (c .before .before .before .before .before .before .before .loop .inv) (c .before .before .before .before .before .before .part-end .ensures)) (c .before .before .before .before .before .parameter .ensures) (c .before .before .before .said .given .1)) (omega (arith, parts-fit _ (c .before .before .before .before .before .before .before .loop .inv) (c .before .before .before .before .before .before .part-end .ensures), c .before .if3 .left)) (c .node-end .ensures), walk-fits (walk-holds (c .before .before .before .before .before .before .before .loop .inv) (parts-turn _ (c .before .before .before .before .before .before .before .loop .inv) (c .before .before .before .before .before .before .part-end .ensures)) (c .before .before .before .before .before .parameter .ensures) (c .before .before .before .said .given .1)) (omega (arith, parts-fit _ (c .before .before .before .before .before .before .before .loop .inv) (c .before .before .before .before .before .before .part-end .ensures), c .before .if3 .left)) (c .node-end .ensures))
+validate-parameter-type-list-loop-less t c = omega (arith, elements-past _ (c .before .before .before .before .before .before .before .loop .inv) (c .before .before .before .before .before .before .element-end .ensures), walk-further (walk-holds (c .before .before .before .before .before .before .before .loop .inv) (elements-turn _ (c .before .before .before .before .before .before .before .loop .inv) (c .before .before .before .before .before .before .element-end .ensures)) (c .before .before .before .before .before .parameter .ensures) (c .before .before .before .said .given .1)) (omega (arith, elements-fit _ (c .before .before .before .before .before .before .before .loop .inv) (c .before .before .before .before .before .before .element-end .ensures), c .before .if3 .left)) (c .node-end .ensures), walk-fits (walk-holds (c .before .before .before .before .before .before .before .loop .inv) (elements-turn _ (c .before .before .before .before .before .before .before .loop .inv) (c .before .before .before .before .before .before .element-end .ensures)) (c .before .before .before .before .before .parameter .ensures) (c .before .before .before .said .given .1)) (omega (arith, elements-fit _ (c .before .before .before .before .before .before .before .loop .inv) (c .before .before .before .before .before .before .element-end .ensures), c .before .if3 .left)) (c .node-end .ensures))
 
 validate-parameter-type-list-loop-again :
     (t : ℕ) → validate-parameter-type-list-lts.Need-loop-again (validate-parameter-type-list-calls t)
@@ -1124,7 +1124,7 @@ validate-parameter-type-list-loop-again :
     validate-parameter-type-list.Post
     validate-parameter-type-list-Inv-loop
     validate-parameter-type-list-μ-loop
-validate-parameter-type-list-loop-again t c = parts-next _ (walk-holds (c .before .before .before .before .before .before .before .loop .inv) (parts-turn _ (c .before .before .before .before .before .before .before .loop .inv) (c .before .before .before .before .before .before .part-end .ensures)) (c .before .before .before .before .before .parameter .ensures) (c .before .before .before .said .given .1)) (omega (arith, parts-fit _ (c .before .before .before .before .before .before .before .loop .inv) (c .before .before .before .before .before .before .part-end .ensures), c .before .if3 .left)) (c .node-end .ensures)
+validate-parameter-type-list-loop-again t c = elements-next _ (walk-holds (c .before .before .before .before .before .before .before .loop .inv) (elements-turn _ (c .before .before .before .before .before .before .before .loop .inv) (c .before .before .before .before .before .before .element-end .ensures)) (c .before .before .before .before .before .parameter .ensures) (c .before .before .before .said .given .1)) (omega (arith, elements-fit _ (c .before .before .before .before .before .before .before .loop .inv) (c .before .before .before .before .before .before .element-end .ensures), c .before .if3 .left)) (c .node-end .ensures)
 
 pub +arguments+either+parameter+test+validate-abstract-declarator+validate-c-family-type+validate-cpp-template-argument+validate-expression+validate-parameter-type-list-spec :
     {M : Type 1} → statement M
@@ -1311,10 +1311,10 @@ pub +arguments+either+parameter+test+validate-abstract-declarator+validate-c-fam
     validate-parameter-type-list-Inv-loop
     validate-parameter-type-list-μ-loop
     (validate-parameter-type-list-returns t)
-    (validate-parameter-type-list-parts-are-full-requires t)
+    (validate-parameter-type-list-elements-are-full-requires t)
     (validate-parameter-type-list-returns-2 t)
     (validate-parameter-type-list-loop-holds t)
-    (validate-parameter-type-list-part-end-requires t)
+    (validate-parameter-type-list-element-end-requires t)
     (validate-parameter-type-list-parameter-requires t)
     (validate-parameter-type-list-enum-known-said t)
     (validate-parameter-type-list-returns-3 t)

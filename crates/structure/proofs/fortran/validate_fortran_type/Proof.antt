@@ -9,7 +9,7 @@ use Rattle.structure.proofs.moves.Verdict.{the-type}
 use Rattle.structure.specs.FortranTypes.{fortran-end}
 use Rattle.structure.specs.Laws.Limits.{not-holds}
 use Rattle.structure.specs.Laws.Walks.{walk-formed, walk-further, walk-fits, walk-below, walk-after}
-use Rattle.structure.specs.Laws.Runs.{entry-spent, head-fails, head-holds, run-start, run-end, run-stop, run-on, run-stops, run-inside}
+use Rattle.structure.specs.Laws.Loops.{entry-spent, head-fails, head-holds, run-start, run-end, run-stop, run-on, run-stops, run-inside}
 use Rattle.structure.specs.Laws.Inside.{by-name}
 use Rattle.structure.specs.Structure.{test}
 use Rattle.structure.specs.Laws.Checks.{InFortran, fortran-entry, fortran-moved}
@@ -44,7 +44,7 @@ returns-2 : tie.Need-returns-2 Inv-loop μ-loop
 returns-2 c = head-fails _ _ (fortran-entry _ _ _) (omega arith) (c .before .validate-fortran-type-head .ensures) (not-true _ (c .if2 .taken))
 
 loop-holds : tie.Need-loop-holds Inv-loop μ-loop
-loop-holds c = run-start tt (c .before .before .before .before .before .before .pre .formed) (head-holds _ _ (fortran-entry _ _ _) (omega arith) (c .before .validate-fortran-type-head .ensures) (not-false _ (c .if2 .left)))
+loop-holds c = run-start tt (c .before .before .before .before .before .before .pre .nodes-stand) (head-holds _ _ (fortran-entry _ _ _) (omega arith) (c .before .validate-fortran-type-head .ensures) (not-false _ (c .if2 .left)))
 
 shape-at-requires : tie.Need-shape-at-requires Inv-loop μ-loop
 shape-at-requires c κs = walk-formed (c .before .loop .inv .walk)

@@ -16,7 +16,7 @@ use Rattle.type_nodes.proofs.nodes.node_identifier.Reads as node-identifier-rea
 use Rattle.type_nodes.proofs.nodes.shape_at.Reads as shape-at-reads
 
 node-at-requires : tie.Need-node-at-requires
-node-at-requires c κs = c .before .before .before .pre .formed
+node-at-requires c κs = c .before .before .before .pre .nodes-stand
 
 enum-known-found : tie.Need-enum-known-found
 enum-known-found c = search needs
@@ -34,10 +34,10 @@ ignoring-case-requires : tie.Need-ignoring-case-requires
 ignoring-case-requires c κs = search needs
 
 shape-at-requires : tie.Need-shape-at-requires
-shape-at-requires c κs = formed-after (c .before .before .before .before .before .before .before .before .before .pre .formed) (found-there _ _ (c .before .before .before .before .before .before .before .before .before .pre .formed .nodes) (c .before .before .before .before .before .node-at .ensures (c .before .before .before .before .before .before .before .before .before .pre .formed .nodes) (c .before .before .before .before .before .before .before .before .before .pre .formed .stands)) (c .before .before .before .found .given .1))
+shape-at-requires c κs = formed-after (c .before .before .before .before .before .before .before .before .before .pre .nodes-stand) (found-there _ _ (c .before .before .before .before .before .before .before .before .before .pre .nodes-stand .nodes) (c .before .before .before .before .before .node-at .ensures (c .before .before .before .before .before .before .before .before .before .pre .nodes-stand .nodes) (c .before .before .before .before .before .before .before .before .before .pre .nodes-stand .stands)) (c .before .before .before .found .given .1))
 
 node-identifier-requires-2 : tie.Need-node-identifier-requires-2
-node-identifier-requires-2 c κs = record { formed = formed-after (c .before .before .before .before .before .before .before .before .before .before .pre .formed) (found-there _ _ (c .before .before .before .before .before .before .before .before .before .before .pre .formed .nodes) (c .before .before .before .before .before .before .node-at .ensures (c .before .before .before .before .before .before .before .before .before .before .pre .formed .nodes) (c .before .before .before .before .before .before .before .before .before .before .pre .formed .stands)) (c .before .before .before .before .found .given .1)); worded = c .before .before .before .before .before .before .before .before .before .before .pre .worded }
+node-identifier-requires-2 c κs = record { nodes-stand = formed-after (c .before .before .before .before .before .before .before .before .before .before .pre .nodes-stand) (found-there _ _ (c .before .before .before .before .before .before .before .before .before .before .pre .nodes-stand .nodes) (c .before .before .before .before .before .before .node-at .ensures (c .before .before .before .before .before .before .before .before .before .before .pre .nodes-stand .nodes) (c .before .before .before .before .before .before .before .before .before .before .pre .nodes-stand .stands)) (c .before .before .before .before .found .given .1)); worded = c .before .before .before .before .before .before .before .before .before .before .pre .worded }
 
 ignoring-case-requires-2 : tie.Need-ignoring-case-requires-2
 ignoring-case-requires-2 c κs = search needs

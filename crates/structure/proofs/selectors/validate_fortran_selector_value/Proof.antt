@@ -13,10 +13,10 @@ use Rattle.structure.proofs.checks.validate_expression.Reads as validat
 use Rattle.type_nodes.proofs.nodes.is_single_token.Reads as is-single-token-reads
 
 is-single-token-requires : tie.Need-is-single-token-requires
-is-single-token-requires c κs = (omega arith, c .before .before .before .pre .formed)
+is-single-token-requires c κs = (omega arith, c .before .before .before .pre .nodes-stand)
 
 is-single-token-requires-2 : tie.Need-is-single-token-requires-2
-is-single-token-requires-2 c κs = (omega arith, c .before .before .before .before .pre .formed)
+is-single-token-requires-2 c κs = (omega arith, c .before .before .before .before .pre .nodes-stand)
 
 returns : tie.Need-returns
 unfolding validate-fortran-selector-value

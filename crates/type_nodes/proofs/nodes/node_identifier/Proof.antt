@@ -13,7 +13,7 @@ use Rattle.type_nodes.proofs.nodes.node_identifier.Lts as lts
 use Rattle.type_nodes.proofs.nodes.node_at.Reads as node-at-reads
 
 node-at-requires : tie.Need-node-at-requires
-node-at-requires c κs = c .before .before .before .pre .formed
+node-at-requires c κs = c .before .before .before .pre .nodes-stand
 
 enum-known-found : tie.Need-enum-known-found
 enum-known-found c = search needs
@@ -25,7 +25,7 @@ returns : tie.Need-returns
 returns c = λ x s. identifier-none _ _ (found-nothing _ _ x (c .before .before .node-at .ensures x s) (c .enum-told .given .1))
 
 shared-slice-read-result : tie.Need-shared-slice-read-result
-shared-slice-read-result c = let f = c .before .before .before .before .before .before .before .before .before .pre .formed in omega (arith, c .before .before .before .before .before .before .before .before .before .pre .worded, token-known (f .stands) (found-there _ _ (f .nodes) (c .before .before .before .before .before .node-at .ensures (f .nodes) (f .stands)) (c .before .before .before .found .given .1)))
+shared-slice-read-result c = let f = c .before .before .before .before .before .before .before .before .before .pre .nodes-stand in omega (arith, c .before .before .before .before .before .before .before .before .before .pre .worded, token-known (f .stands) (found-there _ _ (f .nodes) (c .before .before .before .before .before .node-at .ensures (f .nodes) (f .stands)) (c .before .before .before .found .given .1)))
 
 returns-2 : tie.Need-returns-2
 returns-2 c = λ x s. identifier-read s (found-there _ _ x (c .before .before .before .before .before .node-at .ensures x s) (c .before .before .before .found .given .1)) (c .before .before .before .before .before .before .before .before .before .args .words .now) (c .before .if1 .taken)

@@ -27,16 +27,16 @@ exact-word-requires : tie.Need-exact-word-requires Inv-loop μ-loop
 exact-word-requires c κs = specifiers-ready (c .before .loop .inv)
 
 shape-at-requires : tie.Need-shape-at-requires Inv-loop μ-loop
-shape-at-requires c κs = specifiers-ready (c .before .before .loop .inv) .formed
+shape-at-requires c κs = specifiers-ready (c .before .before .loop .inv) .nodes-stand
 
 node-end-requires : tie.Need-node-end-requires Inv-loop μ-loop
-node-end-requires c κs = (omega arith, specifiers-ready (c .before .before .before .loop .inv) .formed)
+node-end-requires c κs = (omega arith, specifiers-ready (c .before .before .before .loop .inv) .nodes-stand)
 
 exact-word-requires-2 : tie.Need-exact-word-requires-2 Inv-loop μ-loop
 exact-word-requires-2 c κs = specifiers-ready-next (c .before .before .before .before .loop .inv) (omega arith) (c .node-end .ensures)
 
 shape-at-requires-2 : tie.Need-shape-at-requires-2 Inv-loop μ-loop
-shape-at-requires-2 c κs = specifiers-ready-next (c .before .before .before .before .before .loop .inv) (omega arith) (c .before .node-end .ensures) .formed
+shape-at-requires-2 c κs = specifiers-ready-next (c .before .before .before .before .before .loop .inv) (omega arith) (c .before .node-end .ensures) .nodes-stand
 
 specifier-node-requires : tie.Need-specifier-node-requires Inv-loop μ-loop
 specifier-node-requires c κs = (c .before .before .before .before .before .before .before .loop .inv) .kept

@@ -1,11 +1,11 @@
--- `listing_of` meets its contract. Assumes nothing.
+-- `list_reading_of` meets its contract. Assumes nothing.
 use native.Mathlib.Omega.{arith}
-use Rattle.reader.specs.ReaderSays.{listing-of}
+use Rattle.reader.specs.ReaderSays.{list-reading-of}
 use borrow.Author.Needs.{needs}
-use Rattle.reader.proofs.parser.listing_of.Statement.{statement}
-use Rattle.reader.proofs.parser.listing_of.Tie as tie
-use Rattle.reader.proofs.parser.listing_of.Reads as reads
-use Rattle.reader.proofs.parser.listing_of.Lts as lts
+use Rattle.reader.proofs.parser.list_reading_of.Statement.{statement}
+use Rattle.reader.proofs.parser.list_reading_of.Tie as tie
+use Rattle.reader.proofs.parser.list_reading_of.Reads as reads
+use Rattle.reader.proofs.parser.list_reading_of.Lts as lts
 
 enum-known-read : tie.Need-enum-known-read
 enum-known-read c = search needs
@@ -28,8 +28,8 @@ returns-2 c = rw (c .before .before .before .before .read2 .given .1, c .before 
 returns-3 : tie.Need-returns-3
 returns-3 c = rw (c .before .before .before .read2 .given .1, c .enum-told .given .1)
 
-pub listing-of-spec : {M : Type 1} → statement M
-listing-of-spec =
+pub list-reading-of-spec : {M : Type 1} → statement M
+list-reading-of-spec =
     tie.close
     (tie.spec
     enum-known-read

@@ -1,14 +1,14 @@
--- `parts_are_full` meets its contract. The loop's invariant: what is left of the parts decides. Assumes nothing.
+-- `elements_are_full` meets its contract. The loop's invariant: what is left of the parts decides. Assumes nothing.
 use Prim.Native.Nat.{_-_, suc}
 use mathlib.Core.Path.{_≡_, refl, sym, _∙_}
 use native.Mathlib.Omega.{arith}
 use borrow.Author.Needs.{needs}
 use borrow.Author.Tests.{not-true, not-false}
 use Rattle.type_nodes.specs.Laws.Commas.{CommaLoop, comma-start, comma-formed, comma-bad, comma-further, comma-fits, comma-next, comma-other, comma-end}
-use Rattle.type_nodes.proofs.split_on_commas.parts_are_full.Statement.{statement}
-use Rattle.type_nodes.proofs.split_on_commas.parts_are_full.Tie as tie
-use Rattle.type_nodes.proofs.split_on_commas.parts_are_full.Reads as reads
-use Rattle.type_nodes.proofs.split_on_commas.parts_are_full.Lts as lts
+use Rattle.type_nodes.proofs.split_on_commas.elements_are_full.Statement.{statement}
+use Rattle.type_nodes.proofs.split_on_commas.elements_are_full.Tie as tie
+use Rattle.type_nodes.proofs.split_on_commas.elements_are_full.Reads as reads
+use Rattle.type_nodes.proofs.split_on_commas.elements_are_full.Lts as lts
 use Rattle.type_nodes.proofs.nodes.node_end.Reads as node-end-reads
 use Rattle.type_nodes.proofs.nodes.shape_at.Reads as shape-at-reads
 
@@ -45,8 +45,8 @@ loop-again-2 c = comma-other (c .before .before .before .before .loop .inv) (ome
 returns-2 : tie.Need-returns-2 Inv-loop μ-loop
 returns-2 c = comma-end (c .before .loop .inv) (omega arith)
 
-pub parts-are-full-spec : {M : Type 1} → statement M
-parts-are-full-spec =
+pub elements-are-full-spec : {M : Type 1} → statement M
+elements-are-full-spec =
     tie.close
     (tie.spec
     Inv-loop

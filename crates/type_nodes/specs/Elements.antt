@@ -1,4 +1,4 @@
--- The first part between commas, as the code finds it: what `split-on-commas` gives, taken one at a time. Assumes nothing.
+-- The first element between commas, as the code finds it: what `split-on-commas` gives, taken one at a time. Assumes nothing.
 use Prim.Native.Nat.{ℕ}
 use mathlib.Core.List.{List}
 use lib.Dec.{eqb}
@@ -9,9 +9,9 @@ use Rattle.type_nodes.specs.Shapes.{shape}
 
 module _ (kinds : List ℕ) where
   -- The nodes before the first comma.
-  unfoldable pub first-part : Nodes → Nodes
-  first-part none = none
-  first-part (node k i b x) = if eqb (shape kinds (node k i b x)) Comma then none else node k i b (first-part x)
+  unfoldable pub first-element : Nodes → Nodes
+  first-element none = none
+  first-element (node k i b x) = if eqb (shape kinds (node k i b x)) Comma then none else node k i b (first-element x)
 
   -- The nodes from the first comma on.
   unfoldable pub from-comma : Nodes → Nodes
