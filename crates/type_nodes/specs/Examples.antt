@@ -5,20 +5,11 @@ use mathlib.Core.Path.{_≡_, refl}
 use mathlib.Core.Bool.{Bool, true, false}
 use mathlib.Core.List.{List, [], _∷_}
 use lib.Dec.{eqb}
-use Rattle.rows.specs.Notation.{_is-one-of_}
 use Rattle.rows.specs.Languages.{C, Cpp}
 use Rattle.rows.specs.Kinds.{Identifier, Integer, LeftParen, RightParen, Scope, Star}
-use Rattle.rows.specs.Words.{no-word, int, double, long, signed, unsigned, const, «_BitInt», struct, class, other-case, exactly}
-use Rattle.reader.specs.Nodes.{count}
+use Rattle.rows.specs.Words.{no-word, int, double, long, signed, unsigned, const, «_BitInt», struct, class, other-case}
 use Rattle.reader.specs.Reading.{Got, got, bad, kindAt, reading}
-use Rattle.type_nodes.specs.Shapes.{shape-of, next, shape, node-identifier}
-use Rattle.type_nodes.specs.Sets.{builtin-type-words, scalar-bases, signs, declarator-qualifiers, parenthesis-words, elaborated-words}
-use Rattle.type_nodes.specs.Sets.{cpp-elaborated-words, is-c-builtin-type-word, is-c-family-declarator-qualifier, is-keyword}
-use Rattle.type_nodes.specs.Moves.{on-if}
-use Rattle.type_nodes.specs.Specifiers.{none-seen, times, has, once-more, how-many, builtin-words, too-often, no-builtin-word}
-use Rattle.type_nodes.specs.Specifiers.{validate-c-bit-int-sign, validate-c-builtin-combination, specifiers-end, parenthesis-word}
-use Rattle.type_nodes.specs.Specifiers.{qualifier-word, elaborated-word, builtin-word, name-word, specifier-scope, specifier-list}
-use Rattle.type_nodes.specs.Specifiers.{specifier-node, specifiers-from, validate-c-decl-specifiers}
+use Rattle.type_nodes.specs.Specifiers.{validate-c-decl-specifiers}
 
 -- A row: each token an identifier, by its word number, or another token, by its kind.
 pub data Token : Type 0 where
@@ -44,7 +35,7 @@ words-of (token k ∷ row) = no-word ∷ words-of row
 
 -- The specifiers of what the reading came to.
 unfoldable pub specified-reading : (lang : ℕ) (kinds words : List ℕ) → Got → Bool
-unfolding _is-one-of_ exactly count kindAt shape-of next shape node-identifier builtin-type-words scalar-bases signs declarator-qualifiers parenthesis-words elaborated-words cpp-elaborated-words is-c-builtin-type-word is-c-family-declarator-qualifier is-keyword on-if none-seen times has once-more how-many builtin-words too-often no-builtin-word validate-c-bit-int-sign validate-c-builtin-combination specifiers-end parenthesis-word qualifier-word elaborated-word builtin-word name-word specifier-scope specifier-list specifier-node specifiers-from validate-c-decl-specifiers reading
+unfolding kindAt validate-c-decl-specifiers reading
 specified-reading lang kinds words (got x at half m) = validate-c-decl-specifiers lang kinds words x
 specified-reading lang kinds words (bad e m) = false
 

@@ -1,10 +1,12 @@
 pub mod Shapes
+pub mod Nodes
 pub mod Sets
+pub mod SplitOnCommas
 pub mod AbstractDeclarators
 pub mod Moves
+pub mod Combination
 pub mod Specifiers
 pub mod Stands
-pub mod Elements
 pub mod RepresentedSpecifiers
 pub mod Laws
 pub mod Examples

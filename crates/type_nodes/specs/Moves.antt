@@ -2,7 +2,8 @@
 -- Assumes nothing.
 use mathlib.Core.Bool.{Bool, true, false}
 
--- What is asked of the nodes below a node. `some-expression` needs a node, `optional-expression` passes without one.
+-- What is asked of the nodes below a node. The three that ask for an expression differ where there is no node: `expression` enters
+-- `validate_expression`, which fails after its one step; `some-expression` fails and `optional-expression` passes, both without a step.
 pub data Test : Type 0 where
   type-name expression some-expression optional-expression type-or-expression array-bound declarator arguments selectors : Test
   declarator-or-parameters : (saw-type-word : Bool) → Test

@@ -5,14 +5,15 @@ use mathlib.Core.Bool.{Bool}
 use mathlib.Core.List.{List}
 use lib.ListN.{length, getD}
 use Rattle.type_nodes.specs.Moves.{Move, stop, on, on-if}
-use Rattle.type_nodes.specs.Specifiers.{Specifiers, specifiers, once-more, no-builtin-word, counted-words}
+use Rattle.type_nodes.specs.Specifiers.{Specifiers, specifiers}
+use Rattle.type_nodes.specs.Combination.{once-more, no-builtin-word, counted-words}
 use Rattle.type_nodes.specs.declared.specifiers.SpecifierFlags.{SpecifierFlags}
 use Rattle.type_nodes.specs.declared.specifiers.SpecifierMove.{SpecifierMove}
 use Rattle.type_nodes.specs.declared.specifiers.SpecifierMove.the-variants as M
 
 -- The variables of `validate_c_decl_specifiers`.
 abbrev pub specifiers-of : (seen : List ℕ) → SpecifierFlags → Specifiers
-specifiers-of seen f = specifiers seen (f .named) (f .elaborated) (f .«bit_int») (f .scoped)
+specifiers-of seen f = specifiers seen (f .«saw_named_type») (f .«saw_elaborated») (f .«saw_bit_int») (f .«previous_was_scope»)
 
 -- A move holds no counts: it says which word is counted, `seen` the counts before it.
 abbrev pub specifier-move-of : (seen : List ℕ) → SpecifierMove → Move Specifiers
@@ -46,3 +47,7 @@ Goes r ok after = Always r (λ seen. on-if ok (after seen))
 -- A move that serves whatever was counted before, where `none` says whether that is without a builtin type word.
 abbrev pub Serves : SpecifierMove → (none : Bool) → (arm : (seen : List ℕ) → Move Specifiers) → Type 0
 Serves r none arm = (seen : List ℕ) → none ≡ no-builtin-word seen → SpecifierMoves seen r (arm seen)
+
+-- The same of a condition.
+abbrev pub Tells : (r none : Bool) → (condition : (seen : List ℕ) → Bool) → Type 0
+Tells r none condition = (seen : List ℕ) → none ≡ no-builtin-word seen → r ≡ condition seen

@@ -64,14 +64,17 @@ words-after-double = precision ∷ complex ∷ []
 
 -- `is_c_builtin_type_word`
 unfoldable pub is-c-builtin-type-word : ℕ → Bool
+unfolding _is-one-of_ builtin-type-words
 is-c-builtin-type-word w = w is-one-of builtin-type-words
 
 -- `is_c_family_declarator_qualifier`
 unfoldable pub is-c-family-declarator-qualifier : ℕ → Bool
+unfolding _is-one-of_ declarator-qualifiers
 is-c-family-declarator-qualifier w = w is-one-of declarator-qualifiers
 
 -- A word that a leading `::` does not introduce: the test at `leading_global_scope`.
 unfoldable pub is-keyword : ℕ → Bool
+unfolding _is-one-of_ is-c-builtin-type-word is-c-family-declarator-qualifier elaborated-words parenthesis-words
 is-keyword w = is-c-builtin-type-word w || is-c-family-declarator-qualifier w || w is-one-of elaborated-words || w is-one-of parenthesis-words
 
 -- ---- tokens
@@ -79,6 +82,10 @@ is-keyword w = is-c-builtin-type-word w || is-c-family-declarator-qualifier w ||
 -- `&` and `&&`
 unfoldable pub reference-operators : List ℕ
 reference-operators = Ampersand ∷ LogicalAnd ∷ []
+
+-- The first arm of `validate_c_decl_specifiers`: what begins a declarator and ends the specifiers.
+unfoldable pub declarator-operators : List ℕ
+declarator-operators = Star ∷ Ampersand ∷ LogicalAnd ∷ Bracketed ∷ []
 
 -- The shapes of a first node by which `looks_like_abstract_declarator` knows a declarator.
 unfoldable pub declarator-starts : List ℕ
@@ -96,9 +103,13 @@ member-accesses = Dot ∷ Arrow ∷ Percent ∷ []
 unfoldable pub accesses-of : (lang : ℕ) → List ℕ
 accesses-of lang = if eqb lang Fortran then Percent ∷ [] else Dot ∷ Arrow ∷ []
 
--- Two arms of `validate_expression` with the same condition: four operators that are never binary, and four that are binary too.
+-- The arm of `validate_expression` for the operators before an operand that are never binary.
 unfoldable pub prefix-operators : List ℕ
-prefix-operators = LogicalNot ∷ BitwiseNot ∷ PlusPlus ∷ MinusMinus ∷ Plus ∷ Minus ∷ Star ∷ Ampersand ∷ []
+prefix-operators = LogicalNot ∷ BitwiseNot ∷ PlusPlus ∷ MinusMinus ∷ []
+
+-- The arm of `validate_expression` for the operators before an operand that are binary too.
+unfoldable pub prefix-or-binary-operators : List ℕ
+prefix-or-binary-operators = Plus ∷ Minus ∷ Star ∷ Ampersand ∷ []
 
 -- The arm of `validate_expression` for `++` and `--` after an operand.
 unfoldable pub postfix-operators : List ℕ
@@ -119,4 +130,5 @@ fortran-operators =
 
 -- `is_binary_or_assignment_operator`
 unfoldable pub is-binary-or-assignment-operator : (lang k : ℕ) → Bool
+unfolding _is-one-of_ fortran-operators c-family-operators
 is-binary-or-assignment-operator lang k = k is-one-of (if eqb lang Fortran then fortran-operators else c-family-operators)

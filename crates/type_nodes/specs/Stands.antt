@@ -5,8 +5,11 @@ use mathlib.Core.Path.{_≡_}
 use mathlib.Core.Bool.{Bool, false}
 use mathlib.Core.List.{List}
 use lib.ListN.{length, getD}
+use lib.Dec.{eqb}
+use Rattle.rows.specs.Notation.{if_then_else_}
+use Rattle.rows.specs.Kinds.{Comma}
 use Rattle.reader.specs.Nodes.{NodeKind, number, Nodes, none, node, count, node-width, kind-of, token-of, extent-of, numbers-bound}
-use Rattle.type_nodes.specs.Shapes.{empty, shape}
+use Rattle.type_nodes.specs.Nodes.{empty, shape}
 use Rattle.type_nodes.specs.declared.nodes.Lookup.{Lookup}
 use Rattle.type_nodes.specs.declared.nodes.Lookup.the-variants.{Node, Nothing}
 
@@ -36,6 +39,17 @@ below (node k i b x) = b
 unfoldable pub token-of-first : Nodes → ℕ
 token-of-first none = 0
 token-of-first (node k i b x) = i
+
+module _ (kinds : List ℕ) where
+  -- The first element between commas, as the code finds it: the nodes before the first comma.
+  unfoldable pub first-element : Nodes → Nodes
+  first-element none = none
+  first-element (node k i b x) = if eqb (shape kinds (node k i b x)) Comma then none else node k i b (first-element x)
+
+  -- The nodes from the first comma on.
+  unfoldable pub from-comma : Nodes → Nodes
+  from-comma none = none
+  from-comma (node k i b x) = if eqb (shape kinds (node k i b x)) Comma then node k i b x else from-comma x
 
 -- The words of the row too.
 pub record WordedNodes (tree kinds words : List ℕ) (from to : ℕ) : Type 0 where

@@ -25,7 +25,7 @@ ghost use Prim.Native.Nat.{_<_};
 ghost use lib.Dec.{eqb};
 ghost use Rattle.rows.specs.Notation.{if_then_else_};
 ghost use Rattle.rows.specs.Words.{long};
-ghost use Rattle.type_nodes.specs.Specifiers.{times, has, how-many, builtin-words, too-often, validate-c-bit-int-sign, validate-c-builtin-combination, counted-words};
+ghost use Rattle.type_nodes.specs.Combination.{times, has, how-many, builtin-words, too-often, validate-c-bit-int-sign, validate-c-builtin-combination, counted-words};
 ghost use Rattle.type_nodes.specs.RepresentedSpecifiers.{HaveCounts};
 
 // Builtin type words and qualifiers, and no other words, have numbers below this.

@@ -1,6 +1,5 @@
 // The nodes of a level, read from the node records of a tree: a level is a range of node numbers.
 
-use crate::sets::is_declarator_start;
 use crate::shapes::NO_NODE;
 use reader::nodes::TOKEN_NODE;
 use reader::nodes::node_extent;
@@ -8,14 +7,13 @@ use reader::nodes::node_kind;
 use reader::nodes::node_token;
 use rows::kinds::DOT;
 use rows::kinds::IDENTIFIER;
-use rows::kinds::SCOPE;
-use rows::kinds::STAR;
 use rows::word_numbers::NO_WORD;
+use rows::word_numbers::exactly;
 ghost use mathlib.Core.Path.{_≡_};
 ghost use Prim.Native.Nat.{_+_, _<_, suc};
 ghost use Rattle.reader.specs.Nodes.{count};
-ghost use Rattle.type_nodes.specs.Shapes.{NoNode, shape, node-identifier, is-single-token, is-ellipsis};
-ghost use Rattle.type_nodes.specs.AbstractDeclarators.{any, looks-like-abstract-declarator};
+ghost use Rattle.type_nodes.specs.Shapes.{NoNode};
+ghost use Rattle.type_nodes.specs.Nodes.{shape, node-identifier, exact-word, is-single-token, is-ellipsis};
 ghost use Rattle.type_nodes.specs.Stands.{NodesStand, WordedNodes, Of, Finds, below};
 
 // `next`: where the nodes after the node begin.
@@ -85,6 +83,14 @@ pub fn node_identifier(tree: &[u32], kinds: &[u8], words: &[u8], at: usize, to: 
     NO_WORD
 }
 
+// Which known word the node at a place is exactly.
+pub fn exact_word(tree: &[u32], kinds: &[u8], words: &[u8], at: usize, to: usize) -> u8
+    requires { ⌜ WordedNodes (now tree) (now kinds) (now words) at to ⌝ }
+    ensures { λ r. ⌜ Of (now (tree .entry)) (now (kinds .entry)) at to (λ x. r ≡ exact-word (now (kinds .entry)) (now (words .entry)) x) ⌝ }
+{
+    exactly(node_identifier(tree, kinds, words, at, to))
+}
+
 pub fn is_single_token(tree: &[u32], kinds: &[u8], kind: u8, from: usize, to: usize) -> bool
     requires { ⌜ (kind < NoNode) × NodesStand (now tree) (now kinds) from to ⌝ }
     ensures { λ r. ⌜ Of (now (tree .entry)) (now (kinds .entry)) from to (λ x. r ≡ is-single-token (now (kinds .entry)) kind x) ⌝ }
@@ -117,34 +123,4 @@ pub fn is_ellipsis(tree: &[u32], kinds: &[u8], from: usize, to: usize) -> bool
         return false;
     }
     node_end(tree, kinds, third, to) == to
-}
-
-// Some node of a level has a shape.
-fn any(tree: &[u32], kinds: &[u8], wanted: u8, from: usize, to: usize) -> bool
-    requires { ⌜ NodesStand (now tree) (now kinds) from to ⌝ }
-    ensures { λ r. ⌜ Of (now (tree .entry)) (now (kinds .entry)) from to (λ x. r ≡ any (now (kinds .entry)) wanted x) ⌝ }
-{
-    let mut at = from;
-    while at < to {
-        let shape = shape_at(tree, kinds, at, to);
-        let next = node_end(tree, kinds, at, to);
-        if shape == wanted {
-            return true;
-        }
-        at = next;
-    }
-    false
-}
-
-pub fn looks_like_abstract_declarator(tree: &[u32], kinds: &[u8], from: usize, to: usize) -> bool
-    requires { ⌜ NodesStand (now tree) (now kinds) from to ⌝ }
-    ensures { λ r. ⌜ Of (now (tree .entry)) (now (kinds .entry)) from to (λ x. r ≡ looks-like-abstract-declarator (now (kinds .entry)) x) ⌝ }
-{
-    if is_declarator_start(shape_at(tree, kinds, from, to)) {
-        return true;
-    }
-    if any(tree, kinds, SCOPE, from, to) {
-        return any(tree, kinds, STAR, from, to);
-    }
-    false
 }

@@ -95,7 +95,7 @@ use rows::word_numbers::VOLATILE;
 use rows::word_numbers::WCHAR_T;
 ghost use mathlib.Core.Path.{_≡_};
 ghost use Rattle.rows.specs.Notation.{_is-one-of_};
-ghost use Rattle.type_nodes.specs.Sets.{accesses-of, c-family-operators, cpp-elaborated-words, declarator-starts, derived-type-words, elaborated-words, fortran-operators, is-binary-or-assignment-operator, is-c-builtin-type-word, is-c-family-declarator-qualifier, is-keyword, literals, member-accesses, parenthesis-words, postfix-operators, prefix-operators, reference-operators, signs, typeof-words, words-after-double};
+ghost use Rattle.type_nodes.specs.Sets.{accesses-of, c-family-operators, cpp-elaborated-words, declarator-starts, derived-type-words, elaborated-words, fortran-operators, is-binary-or-assignment-operator, is-c-builtin-type-word, is-c-family-declarator-qualifier, is-keyword, literals, member-accesses, parenthesis-words, postfix-operators, prefix-operators, prefix-or-binary-operators, reference-operators, signs, typeof-words, words-after-double};
 
 pub fn is_c_builtin_type_word(word: u8) -> bool
     ensures { λ r. ⌜ r ≡ is-c-builtin-type-word word ⌝ }
@@ -240,14 +240,13 @@ pub fn is_access_of(language: u8, shape: u8) -> bool
 pub fn is_prefix_operator(shape: u8) -> bool
     ensures { λ r. ⌜ r ≡ (shape is-one-of prefix-operators) ⌝ }
 {
-    (shape == LOGICAL_NOT)
-        | (shape == BITWISE_NOT)
-        | (shape == PLUS_PLUS)
-        | (shape == MINUS_MINUS)
-        | (shape == PLUS)
-        | (shape == MINUS)
-        | (shape == STAR)
-        | (shape == AMPERSAND)
+    (shape == LOGICAL_NOT) | (shape == BITWISE_NOT) | (shape == PLUS_PLUS) | (shape == MINUS_MINUS)
+}
+
+pub fn is_prefix_or_binary_operator(shape: u8) -> bool
+    ensures { λ r. ⌜ r ≡ (shape is-one-of prefix-or-binary-operators) ⌝ }
+{
+    (shape == PLUS) | (shape == MINUS) | (shape == STAR) | (shape == AMPERSAND)
 }
 
 pub fn is_postfix_operator(shape: u8) -> bool

@@ -7,8 +7,8 @@ use crate::combination::COUNTED_WORDS;
 use crate::combination::has;
 use crate::combination::validate_c_bit_int_sign;
 use crate::combination::validate_c_builtin_combination;
+use crate::nodes::exact_word;
 use crate::nodes::node_end;
-use crate::nodes::node_identifier;
 use crate::nodes::shape_at;
 use crate::sets::is_c_builtin_type_word;
 use crate::sets::is_c_family_declarator_qualifier;
@@ -25,30 +25,29 @@ use rows::languages::C;
 use rows::languages::CPP;
 use rows::word_numbers::BIT_INT;
 use rows::word_numbers::NO_WORD;
-use rows::word_numbers::exactly;
 ghost use mathlib.Core.Path.{_≡_};
 ghost use Prim.Native.Nat.{_<_};
 ghost use lib.Dec.{eqb};
 ghost use Rattle.rows.specs.Notation.{if_then_else_};
-ghost use Rattle.rows.specs.Words.{exactly, «_BitInt»};
-ghost use Rattle.type_nodes.specs.Shapes.{exact-word};
-ghost use Rattle.type_nodes.specs.Specifiers.{once-more, no-builtin-word, validate-c-bit-int-sign, specifiers-end, parenthesis-word, qualifier-word, elaborated-word, builtin-word, name-word, specifier-scope, specifier-list, specifier-node, validate-c-decl-specifiers, counted-words};
+ghost use Rattle.rows.specs.Words.{«_BitInt»};
+ghost use Rattle.type_nodes.specs.Combination.{once-more, no-builtin-word, validate-c-bit-int-sign, counted-words};
+ghost use Rattle.type_nodes.specs.Specifiers.{specifiers-end, parenthesis-word, qualifier-word, elaborated-word, builtin-word, name-word, leading-global-scope, specifier-scope, specifier-list, specifier-node, validate-c-decl-specifiers};
 ghost use Rattle.type_nodes.specs.Stands.{WordedNodes, Of};
-ghost use Rattle.type_nodes.specs.RepresentedSpecifiers.{specifiers-of, SpecifierMoves, Always, Goes, Serves};
+ghost use Rattle.type_nodes.specs.RepresentedSpecifiers.{specifiers-of, SpecifierMoves, Always, Goes, Serves, Tells};
 
 // What was seen besides the words that are counted.
 pub struct SpecifierFlags {
-    pub named: bool,
-    pub elaborated: bool,
-    pub bit_int: bool,
-    pub scoped: bool,
+    pub saw_named_type: bool,
+    pub saw_elaborated: bool,
+    pub saw_bit_int: bool,
+    pub previous_was_scope: bool,
 }
 
 const NO_FLAGS: SpecifierFlags = SpecifierFlags {
-    named: false,
-    elaborated: false,
-    bit_int: false,
-    scoped: false,
+    saw_named_type: false,
+    saw_elaborated: false,
+    saw_bit_int: false,
+    previous_was_scope: false,
 };
 
 // `Count`: go on, with the word seen once more. A move does not hold the counts, since an enum can hold no array.
@@ -56,14 +55,6 @@ pub enum SpecifierMove {
     Stop(bool),
     On(SpecifierFlags),
     Count(u8, SpecifierFlags),
-}
-
-// Which known word the node at a place is exactly.
-pub fn exact_word(tree: &[u32], kinds: &[u8], words: &[u8], at: usize, to: usize) -> u8
-    requires { ⌜ WordedNodes (now tree) (now kinds) (now words) at to ⌝ }
-    ensures { λ r. ⌜ Of (now (tree .entry)) (now (kinds .entry)) at to (λ x. r ≡ exact-word (now (kinds .entry)) (now (words .entry)) x) ⌝ }
-{
-    exactly(node_identifier(tree, kinds, words, at, to))
 }
 
 // Whether the builtin type words may stand before such a word and its parentheses.
@@ -100,16 +91,16 @@ fn specifiers_end(seen: &[usize; COUNTED_WORDS], none: bool, flags: SpecifierFla
     requires { ⌜ none ≡ no-builtin-word (now seen) ⌝ }
     ensures { λ r. ⌜ r ≡ specifiers-end (specifiers-of (now (seen .entry)) flags) ⌝ }
 {
-    if flags.scoped {
+    if flags.previous_was_scope {
         return false;
     }
-    if flags.bit_int {
+    if flags.saw_bit_int {
         return validate_c_bit_int_sign(seen);
     }
     if !none {
         return validate_c_builtin_combination(seen);
     }
-    flags.named | flags.elaborated
+    flags.saw_named_type | flags.saw_elaborated
 }
 
 // A word that makes a specifier with the parentheses after it.
@@ -124,12 +115,12 @@ fn parenthesis_word(
 {
     let valid = builtin_words_are_valid(word, seen, none);
     on_if(
-        !flags.named & !flags.elaborated & valid,
+        !flags.saw_named_type & !flags.saw_elaborated & valid,
         SpecifierFlags {
-            named: true,
-            elaborated: flags.elaborated,
-            bit_int: word == BIT_INT,
-            scoped: flags.scoped,
+            saw_named_type: true,
+            saw_elaborated: flags.saw_elaborated,
+            saw_bit_int: word == BIT_INT,
+            previous_was_scope: flags.previous_was_scope,
         },
     )
 }
@@ -154,12 +145,12 @@ fn elaborated_word(
 {
     let foreign = (language == C) & is_cpp_elaborated_word(word);
     on_if(
-        !foreign & !flags.named & none & !flags.elaborated & (right == IDENTIFIER),
+        !foreign & !flags.saw_named_type & none & !flags.saw_elaborated & (right == IDENTIFIER),
         SpecifierFlags {
-            named: flags.named,
-            elaborated: true,
-            bit_int: flags.bit_int,
-            scoped: flags.scoped,
+            saw_named_type: flags.saw_named_type,
+            saw_elaborated: true,
+            saw_bit_int: flags.saw_bit_int,
+            previous_was_scope: flags.previous_was_scope,
         },
     )
 }
@@ -168,15 +159,15 @@ fn builtin_word(word: u8, flags: SpecifierFlags) -> SpecifierMove
     requires { ⌜ word < counted-words ⌝ }
     ensures { λ r. ⌜ Always r (λ seen. builtin-word word (specifiers-of seen flags)) ⌝ }
 {
-    let sign = flags.bit_int & is_sign(word);
+    let sign = flags.saw_bit_int & is_sign(word);
     count_if(
-        !flags.elaborated & (!flags.named | sign),
+        !flags.saw_elaborated & (!flags.saw_named_type | sign),
         word,
         SpecifierFlags {
-            named: flags.named,
-            elaborated: flags.elaborated,
-            bit_int: flags.bit_int,
-            scoped: false,
+            saw_named_type: flags.saw_named_type,
+            saw_elaborated: flags.saw_elaborated,
+            saw_bit_int: flags.saw_bit_int,
+            previous_was_scope: false,
         },
     )
 }
@@ -186,14 +177,20 @@ fn name_word(none: bool, flags: SpecifierFlags) -> SpecifierMove
     ensures { λ r. ⌜ Serves r none (λ seen. name-word (specifiers-of seen flags)) ⌝ }
 {
     on_if(
-        none & (!flags.named | flags.scoped | flags.elaborated),
+        none & (!flags.saw_named_type | flags.previous_was_scope | flags.saw_elaborated),
         SpecifierFlags {
-            named: true,
-            elaborated: flags.elaborated,
-            bit_int: flags.bit_int,
-            scoped: false,
+            saw_named_type: true,
+            saw_elaborated: flags.saw_elaborated,
+            saw_bit_int: flags.saw_bit_int,
+            previous_was_scope: false,
         },
     )
+}
+
+fn leading_global_scope(none: bool, flags: SpecifierFlags) -> bool
+    ensures { λ r. ⌜ Tells r none (λ seen. leading-global-scope (specifiers-of seen flags)) ⌝ }
+{
+    !flags.saw_named_type & !flags.saw_elaborated & none & !flags.previous_was_scope
 }
 
 // `::` after a name, or leading: then it must introduce a name and no keyword.
@@ -206,14 +203,16 @@ fn specifier_scope(
 ) -> SpecifierMove
     ensures { λ r. ⌜ Serves r none (λ seen. specifier-scope language right second (specifiers-of seen flags)) ⌝ }
 {
-    let leading = !flags.elaborated & none & (right == IDENTIFIER) & !is_keyword(second);
+    let leading = leading_global_scope(none, flags);
+    let introduces = (right == IDENTIFIER) & !is_keyword(second);
+    let known = flags.saw_named_type | leading;
     on_if(
-        (language == CPP) & !flags.scoped & (flags.named | leading),
+        (language == CPP) & !flags.previous_was_scope & known & (!leading | introduces),
         SpecifierFlags {
-            named: flags.named,
-            elaborated: flags.elaborated,
-            bit_int: flags.bit_int,
-            scoped: true,
+            saw_named_type: flags.saw_named_type,
+            saw_elaborated: flags.saw_elaborated,
+            saw_bit_int: flags.saw_bit_int,
+            previous_was_scope: true,
         },
     )
 }
@@ -222,10 +221,13 @@ fn specifier_scope(
 fn specifier_list(language: u8, flags: SpecifierFlags) -> SpecifierMove
     ensures { λ r. ⌜ Always r (λ seen. specifier-list language (specifiers-of seen flags)) ⌝ }
 {
-    on_if((language == CPP) & flags.named & !flags.scoped, flags)
+    on_if(
+        (language == CPP) & flags.saw_named_type & !flags.previous_was_scope,
+        flags,
+    )
 }
 
-// The last line is the original's `break`.
+// The last line is the original's three `break`.
 fn specifier_node(
     language: u8,
     before: u8,

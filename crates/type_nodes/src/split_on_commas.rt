@@ -6,9 +6,8 @@ use rows::kinds::COMMA;
 ghost use mathlib.Core.Path.{_≡_};
 ghost use Prim.Native.Nat.{_+_};
 ghost use Rattle.reader.specs.Nodes.{count};
-ghost use Rattle.type_nodes.specs.Shapes.{split-on-commas, elements-are-full};
-ghost use Rattle.type_nodes.specs.Elements.{first-element};
-ghost use Rattle.type_nodes.specs.Stands.{NodesStand, Of};
+ghost use Rattle.type_nodes.specs.SplitOnCommas.{split-on-commas, elements-are-full};
+ghost use Rattle.type_nodes.specs.Stands.{first-element, NodesStand, Of};
 
 // Where the first element ends: at a comma, or with the level.
 pub fn element_end(tree: &[u32], kinds: &[u8], from: usize, to: usize) -> usize

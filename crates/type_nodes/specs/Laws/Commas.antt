@@ -9,7 +9,9 @@ use lib.ListN.{length}
 use lib.Dec.{eqb}
 use borrow.Author.Tests.{eq-eqb, ne-eqb}
 use Rattle.reader.specs.Nodes.{Nodes, none, node, count, node-width, numbers-bound}
-use Rattle.type_nodes.specs.Shapes.{empty, next, shape, prepend, split-on-commas, elements-are-full, is-ellipsis, NoNode}
+use Rattle.type_nodes.specs.Nodes.{empty, next, shape, is-ellipsis}
+use Rattle.type_nodes.specs.SplitOnCommas.{prepend, split-on-commas, elements-are-full}
+use Rattle.type_nodes.specs.Shapes.{NoNode}
 use Rattle.type_nodes.specs.Stands.{Stands, NodesStand, Of, below}
 use Rattle.type_nodes.specs.Laws.Siblings.{first, nothing-left, shape-none, last-empty, unique}
 

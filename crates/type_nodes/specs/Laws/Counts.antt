@@ -13,7 +13,7 @@ use Rattle.rows.specs.Notation.{if_then_else_, _is-one-of_}
 use Rattle.rows.specs.Words.{long}
 use Rattle.rows.specs.Laws.Tests.{or-false, or-assoc}
 use Rattle.type_nodes.specs.Sets.{builtin-type-words, is-c-builtin-type-word}
-use Rattle.type_nodes.specs.Specifiers.{times, has, once-more, how-many, builtin-words, no-builtin-word, too-often, counted-words}
+use Rattle.type_nodes.specs.Combination.{times, has, once-more, how-many, builtin-words, no-builtin-word, too-often, counted-words}
 use Rattle.type_nodes.specs.RepresentedSpecifiers.{HaveCounts}
 
 unfoldable pub all-counted : List ℕ → Bool

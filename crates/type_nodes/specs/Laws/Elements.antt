@@ -10,9 +10,9 @@ use borrow.Author.Tests.{eq-eqb, ne-eqb}
 use Rattle.rows.specs.Notation.{if_then_else_}
 use Rattle.rows.specs.Kinds.{Comma}
 use Rattle.reader.specs.Nodes.{Nodes, none, node, count, node-width, numbers-bound}
-use Rattle.type_nodes.specs.Shapes.{empty, next, shape, prepend, split-on-commas}
-use Rattle.type_nodes.specs.Stands.{Stands, ends, here, NodesStand, Of, below}
-use Rattle.type_nodes.specs.Elements.{first-element, from-comma}
+use Rattle.type_nodes.specs.Nodes.{empty, next, shape}
+use Rattle.type_nodes.specs.SplitOnCommas.{prepend, split-on-commas}
+use Rattle.type_nodes.specs.Stands.{first-element, from-comma, Stands, ends, here, NodesStand, Of, below}
 use Rattle.type_nodes.specs.Laws.Siblings.{first, nothing-left, unique}
 
 -- The parts after the first: the nodes are those from the first comma on.

@@ -8,7 +8,7 @@ use lib.ListN.{length}
 use lib.Dec.{eqb}
 use borrow.Author.Tests.{eq-eqb, ne-eqb}
 use Rattle.reader.specs.Nodes.{Nodes, none, node, count, node-width, numbers-bound}
-use Rattle.type_nodes.specs.Shapes.{empty, next, shape}
+use Rattle.type_nodes.specs.Nodes.{empty, next, shape}
 use Rattle.type_nodes.specs.AbstractDeclarators.{any}
 use Rattle.type_nodes.specs.Stands.{Stands, NodesStand, Of, below}
 use Rattle.type_nodes.specs.Laws.Siblings.{first, nothing-left, unique}

@@ -11,7 +11,8 @@ use Rattle.rows.specs.Notation.{if_then_else_}
 use Rattle.rows.specs.Kinds.{Identifier}
 use Rattle.rows.specs.Words.{no-word}
 use Rattle.reader.specs.Nodes.{NodeKind, T-node, G-node, B-node, L-node, A-node, number, Nodes, none, node, count, kind-of, token-of, extent-of}
-use Rattle.type_nodes.specs.Shapes.{NoNode, Parenthesized, Bracketed, TemplateArguments, TemplateArgument, empty, next, shape-of, shape, node-identifier, is-single-token}
+use Rattle.type_nodes.specs.Shapes.{NoNode, shape-of}
+use Rattle.type_nodes.specs.Nodes.{empty, next, shape, node-identifier, is-single-token}
 use Rattle.type_nodes.specs.Stands.{Stands, ends, here, Finds, below, token-of-first}
 use Rattle.type_nodes.specs.declared.nodes.Lookup.{Lookup}
 use Rattle.type_nodes.specs.declared.nodes.Lookup.the-variants.{Node, Nothing}

@@ -7,10 +7,11 @@ use native.Mathlib.Omega.{arith}
 use native.Mathlib.Numerals.{add-one}
 use lib.ListN.{length, length-set, getD, set, replicate}
 use Rattle.reader.specs.Nodes.{Nodes, none, node, count, node-width, numbers-bound}
-use Rattle.type_nodes.specs.Shapes.{empty, next, shape, exact-word}
+use Rattle.type_nodes.specs.Nodes.{empty, next, shape, exact-word}
 use Rattle.type_nodes.specs.Moves.{Move, stop, on}
 use Rattle.type_nodes.specs.Sets.{builtin-type-words, is-c-builtin-type-word}
-use Rattle.type_nodes.specs.Specifiers.{Specifiers, times, has, how-many, builtin-words, no-builtin-word, once-more, none-seen, specifiers-end, specifier-node, specifiers-from, validate-c-decl-specifiers, counted-words}
+use Rattle.type_nodes.specs.Specifiers.{Specifiers, specifiers-end, specifier-node, specifiers-from, validate-c-decl-specifiers}
+use Rattle.type_nodes.specs.Combination.{times, has, how-many, builtin-words, no-builtin-word, once-more, none-seen, counted-words}
 use Rattle.type_nodes.specs.Stands.{Stands, WordedNodes, Of, below}
 use Rattle.type_nodes.specs.RepresentedSpecifiers.{specifiers-of, specifier-move-of, HasCount, SpecifierMoves}
 use Rattle.type_nodes.specs.Laws.Siblings.{first, nothing-left, unique}
@@ -73,7 +74,7 @@ pub record SpecifierLoop (lang : ℕ) (tree kinds words : List ℕ) (from to : �
       → validate-c-decl-specifiers lang kinds words x ≡ specifiers-from lang kinds words rest lw (specifiers-of seen f)
 
 pub specifiers-start : (lang : ℕ) {tree kinds words : List ℕ} {from to : ℕ} → WordedNodes tree kinds words from to
-    → SpecifierLoop lang tree kinds words from to (replicate counted-words 0) true (record { named = false; elaborated = false; «bit_int» = false; scoped = false }) 0 from
+    → SpecifierLoop lang tree kinds words from to (replicate counted-words 0) true (record { «saw_named_type» = false; «saw_elaborated» = false; «saw_bit_int» = false; «previous_was_scope» = false }) 0 from
 unfolding validate-c-decl-specifiers none-seen no-builtin-word builtin-words builtin-type-words how-many has times
 specifiers-start lang r = record {
   rest = r .nodes-stand .nodes;

@@ -3,7 +3,7 @@ use mathlib.Core.Path.{refl}
 use native.Mathlib.Omega.{arith}
 use borrow.Author.Needs.{needs}
 use Rattle.type_nodes.specs.Sets.{builtin-type-words}
-use Rattle.type_nodes.specs.Specifiers.{builtin-words}
+use Rattle.type_nodes.specs.Combination.{builtin-words}
 use Rattle.type_nodes.specs.Laws.Counts.{all-counted, counted}
 use borrow.Author.Needs.{needs}
 use Rattle.type_nodes.proofs.combination.builtin_words.Statement.{statement}

@@ -1,7 +1,7 @@
 -- `has` meets its contract. Assumes nothing.
 use native.Mathlib.Omega.{arith}
 use borrow.Author.Needs.{needs}
-use Rattle.type_nodes.specs.Specifiers.{has}
+use Rattle.type_nodes.specs.Combination.{has}
 use borrow.Author.Needs.{needs}
 use Rattle.type_nodes.proofs.combination.has.Statement.{statement}
 use Rattle.type_nodes.proofs.combination.has.Tie as tie

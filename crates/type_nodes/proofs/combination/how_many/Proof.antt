@@ -4,7 +4,7 @@ use mathlib.Core.Path.{_≡_, refl, sym, _∙_}
 use native.Mathlib.Omega.{arith}
 use borrow.Author.Needs.{needs}
 use lib.ListN.{length, drop}
-use Rattle.type_nodes.specs.Specifiers.{how-many}
+use Rattle.type_nodes.specs.Combination.{how-many}
 use Rattle.type_nodes.specs.Laws.Counts.{all-left, one-met, one-not-met, none-left}
 use Rattle.type_nodes.proofs.combination.how_many.Statement.{statement}
 use Rattle.type_nodes.proofs.combination.how_many.Tie as tie

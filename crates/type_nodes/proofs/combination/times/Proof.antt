@@ -2,7 +2,7 @@
 use mathlib.Core.Path.{refl}
 use native.Mathlib.Omega.{arith}
 use borrow.Author.Needs.{needs}
-use Rattle.type_nodes.specs.Specifiers.{times}
+use Rattle.type_nodes.specs.Combination.{times}
 use borrow.Author.Needs.{needs}
 use Rattle.type_nodes.proofs.combination.times.Statement.{statement}
 use Rattle.type_nodes.proofs.combination.times.Tie as tie

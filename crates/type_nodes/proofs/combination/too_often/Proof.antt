@@ -5,7 +5,7 @@ use mathlib.Core.Bool.{_||_}
 use native.Mathlib.Omega.{arith}
 use borrow.Author.Needs.{needs}
 use lib.ListN.{length, drop}
-use Rattle.type_nodes.specs.Specifiers.{too-often}
+use Rattle.type_nodes.specs.Combination.{too-often}
 use Rattle.type_nodes.specs.Laws.Counts.{one-often, all-often}
 use Rattle.type_nodes.proofs.combination.too_often.Statement.{statement}
 use Rattle.type_nodes.proofs.combination.too_often.Tie as tie

@@ -1,7 +1,7 @@
 -- `validate_c_bit_int_sign` meets its contract. Assumes nothing.
 use native.Mathlib.Omega.{arith}
 use borrow.Author.Needs.{needs}
-use Rattle.type_nodes.specs.Specifiers.{no-builtin-word, validate-c-bit-int-sign}
+use Rattle.type_nodes.specs.Combination.{no-builtin-word, validate-c-bit-int-sign}
 use borrow.Author.Needs.{needs}
 use Rattle.type_nodes.proofs.combination.validate_c_bit_int_sign.Statement.{statement}
 use Rattle.type_nodes.proofs.combination.validate_c_bit_int_sign.Tie as tie

@@ -3,7 +3,7 @@ use mathlib.Core.Path.{refl}
 use native.Mathlib.Omega.{arith}
 use borrow.Author.Needs.{needs}
 use Rattle.type_nodes.specs.Sets.{builtin-type-words, scalar-bases}
-use Rattle.type_nodes.specs.Specifiers.{validate-c-builtin-combination}
+use Rattle.type_nodes.specs.Combination.{validate-c-builtin-combination}
 use Rattle.type_nodes.specs.Laws.Counts.{all-counted, counted}
 use borrow.Author.Needs.{needs}
 use Rattle.type_nodes.proofs.combination.validate_c_builtin_combination.Statement.{

@@ -10,7 +10,7 @@ use Rattle.type_nodes.proofs.specifiers.validate_c_decl_specifiers.Lts 
 use Rattle.type_nodes.proofs.nodes.node_end.Reads as node-end-reads
 use Rattle.type_nodes.proofs.nodes.shape_at.Reads as shape-at-reads
 use Rattle.type_nodes.proofs.sets.is_c_builtin_type_word.Reads as is-c-builtin-type-word-reads
-use Rattle.type_nodes.proofs.specifiers.exact_word.Reads as exact-word-reads
+use Rattle.type_nodes.proofs.nodes.exact_word.Reads as exact-word-reads
 use Rattle.type_nodes.proofs.specifiers.specifier_node.Reads as specifier-node-reads
 use Rattle.type_nodes.proofs.specifiers.specifiers_end.Reads as specifiers-end-reads
 

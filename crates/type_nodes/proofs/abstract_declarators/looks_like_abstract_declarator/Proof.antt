@@ -3,11 +3,11 @@ use native.Mathlib.Omega.{arith}
 use borrow.Author.Needs.{needs}
 use Rattle.type_nodes.specs.AbstractDeclarators.{looks-like-abstract-declarator}
 use borrow.Author.Needs.{needs}
-use Rattle.type_nodes.proofs.nodes.looks_like_abstract_declarator.Statement.{statement}
-use Rattle.type_nodes.proofs.nodes.looks_like_abstract_declarator.Tie as tie
-use Rattle.type_nodes.proofs.nodes.looks_like_abstract_declarator.Reads as reads
-use Rattle.type_nodes.proofs.nodes.looks_like_abstract_declarator.Lts as lts
-use Rattle.type_nodes.proofs.nodes.any.Reads as any-reads
+use Rattle.type_nodes.proofs.abstract_declarators.looks_like_abstract_declarator.Statement.{statement}
+use Rattle.type_nodes.proofs.abstract_declarators.looks_like_abstract_declarator.Tie as tie
+use Rattle.type_nodes.proofs.abstract_declarators.looks_like_abstract_declarator.Reads as reads
+use Rattle.type_nodes.proofs.abstract_declarators.looks_like_abstract_declarator.Lts as lts
+use Rattle.type_nodes.proofs.abstract_declarators.any.Reads as any-reads
 use Rattle.type_nodes.proofs.nodes.shape_at.Reads as shape-at-reads
 use Rattle.type_nodes.proofs.sets.is_declarator_start.Reads as is-declarator-start-reads
 

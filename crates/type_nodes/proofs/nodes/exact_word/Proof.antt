@@ -1,10 +1,10 @@
 -- `exact_word` meets its contract. Assumes nothing.
 use borrow.Author.Needs.{needs}
 use borrow.Author.Needs.{needs}
-use Rattle.type_nodes.proofs.specifiers.exact_word.Statement.{statement}
-use Rattle.type_nodes.proofs.specifiers.exact_word.Tie as tie
-use Rattle.type_nodes.proofs.specifiers.exact_word.Reads as reads
-use Rattle.type_nodes.proofs.specifiers.exact_word.Lts as lts
+use Rattle.type_nodes.proofs.nodes.exact_word.Statement.{statement}
+use Rattle.type_nodes.proofs.nodes.exact_word.Tie as tie
+use Rattle.type_nodes.proofs.nodes.exact_word.Reads as reads
+use Rattle.type_nodes.proofs.nodes.exact_word.Lts as lts
 use Rattle.type_nodes.proofs.nodes.node_identifier.Reads as node-identifier-reads
 use Rattle.rows.proofs.word_numbers.exactly.Reads as exactly-reads
 

@@ -3,10 +3,10 @@ use Prim.Native.Nat.{_-_}
 use native.Mathlib.Omega.{arith}
 use borrow.Author.Needs.{needs}
 use Rattle.type_nodes.specs.Laws.Found.{AnyLoop, any-start, any-formed, any-here, any-further, any-fits, any-next, any-end}
-use Rattle.type_nodes.proofs.nodes.any.Statement.{statement}
-use Rattle.type_nodes.proofs.nodes.any.Tie as tie
-use Rattle.type_nodes.proofs.nodes.any.Reads as reads
-use Rattle.type_nodes.proofs.nodes.any.Lts as lts
+use Rattle.type_nodes.proofs.abstract_declarators.any.Statement.{statement}
+use Rattle.type_nodes.proofs.abstract_declarators.any.Tie as tie
+use Rattle.type_nodes.proofs.abstract_declarators.any.Reads as reads
+use Rattle.type_nodes.proofs.abstract_declarators.any.Lts as lts
 use Rattle.type_nodes.proofs.nodes.node_end.Reads as node-end-reads
 use Rattle.type_nodes.proofs.nodes.shape_at.Reads as shape-at-reads
 
