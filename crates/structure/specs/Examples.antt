@@ -4,40 +4,18 @@ use Prim.Native.Nat.{ℕ}
 use mathlib.Core.Path.{_≡_, refl}
 use mathlib.Core.List.{List, [], _∷_}
 use lib.Dec.{eqb}
-use Rattle.rows.specs.Notation.{_is-one-of_}
 use Rattle.rows.specs.Languages.{C, Cpp, Fortran}
 use Rattle.rows.specs.Kinds.{Integer, Boolean, LeftParen, RightParen, LeftBracket, RightBracket, Comma, Question, Colon, Scope, Dot}
 use Rattle.rows.specs.Kinds.{Percent, Plus, Minus, Star, BitwiseNot, Ampersand, LogicalAnd, LogicalNeqv, Equal, Less, Greater, ShiftRight, PlusPlus}
-use Rattle.rows.specs.Words.{void, char, int, double, long, unsigned, const, noexcept, decltype, typeof, «_BitInt», type, precision, exactly, ignoring-case}
-use Rattle.reader.specs.Nodes.{count}
+use Rattle.rows.specs.Words.{void, char, int, double, long, unsigned, const, noexcept, decltype, typeof, «_BitInt», type, precision}
 use Rattle.reader.specs.Reading.{Got, got, bad, kindAt, reading}
-use Rattle.type_nodes.specs.Shapes.{shape-of, empty, next, arguments-of, prepend, elements-are-full, shape, node-identifier, is-single-token}
-use Rattle.type_nodes.specs.Shapes.{is-ellipsis, split-on-commas}
-use Rattle.type_nodes.specs.Sets.{builtin-type-words, scalar-bases, signs, declarator-qualifiers, parenthesis-words, typeof-words}
-use Rattle.type_nodes.specs.Sets.{elaborated-words, cpp-elaborated-words, derived-type-words, words-after-double, is-c-builtin-type-word}
-use Rattle.type_nodes.specs.Sets.{is-c-family-declarator-qualifier, is-keyword, reference-operators, declarator-starts, literals}
-use Rattle.type_nodes.specs.Sets.{member-accesses, accesses-of, prefix-operators, postfix-operators, c-family-operators, fortran-operators}
-use Rattle.type_nodes.specs.Sets.{is-binary-or-assignment-operator}
-use Rattle.type_nodes.specs.Moves.{on-if, inside-if}
-use Rattle.type_nodes.specs.Specifiers.{none-seen, times, has, once-more, how-many, builtin-words, too-often, no-builtin-word}
-use Rattle.type_nodes.specs.Specifiers.{validate-c-bit-int-sign, validate-c-builtin-combination, specifiers-end, parenthesis-word}
-use Rattle.type_nodes.specs.Specifiers.{qualifier-word, elaborated-word, builtin-word, name-word, specifier-scope, specifier-list}
-use Rattle.type_nodes.specs.Specifiers.{specifier-node, specifiers-from, validate-c-decl-specifiers}
-use Rattle.type_nodes.specs.AbstractDeclarators.{any, looks-like-abstract-declarator}
 use Rattle.type_nodes.specs.Examples.{Token, word, token, name, kinds-of, words-of}
-use Rattle.structure.specs.Said.{Said, holds, fails, after, both, either, plain, every}
-use Rattle.structure.specs.Declarators.{scope-has-valid-neighbors, is-part-of-name, type-end, declarator-end}
-use Rattle.structure.specs.Declarators.{c-family-group, c-family-node, abstract-declarator-node}
-use Rattle.structure.specs.Expressions.{expression-end, expression-node}
-use Rattle.structure.specs.FortranTypes.{fortran-head, validate-fortran-type-head, fortran-end, fortran-node}
-use Rattle.structure.specs.Structure.{validate-cpp-template-argument, validate-parameter, validate-parameter-type-list}
-use Rattle.structure.specs.Structure.{validate-fortran-selector-value, validate-fortran-selector, validate-fortran-selector-list, test, follow}
-use Rattle.structure.specs.Structure.{loop, validate-c-family-type, validate-expression, validate-abstract-declarator, validate-fortran-type}
-use Rattle.structure.specs.Structure.{turn, checkF, checked, validate-structured-syntax}
+use Rattle.structure.specs.Said.{Said, holds, fails, after}
+use Rattle.structure.specs.Syntax.{validate-structured-syntax}
 
 -- The check of what the reading came to.
 unfoldable pub checked-reading : (lang : ℕ) (kinds words : List ℕ) → Got → Said
-unfolding _is-one-of_ exactly ignoring-case count kindAt shape-of empty next arguments-of prepend elements-are-full shape node-identifier any is-single-token is-ellipsis split-on-commas builtin-type-words scalar-bases signs declarator-qualifiers parenthesis-words typeof-words elaborated-words cpp-elaborated-words derived-type-words words-after-double is-c-builtin-type-word is-c-family-declarator-qualifier is-keyword reference-operators declarator-starts literals member-accesses accesses-of prefix-operators postfix-operators c-family-operators fortran-operators is-binary-or-assignment-operator after both either plain every on-if inside-if none-seen times has once-more how-many builtin-words too-often no-builtin-word validate-c-bit-int-sign validate-c-builtin-combination specifiers-end parenthesis-word qualifier-word elaborated-word builtin-word name-word specifier-scope specifier-list specifier-node specifiers-from validate-c-decl-specifiers looks-like-abstract-declarator scope-has-valid-neighbors is-part-of-name type-end declarator-end c-family-group c-family-node abstract-declarator-node expression-end expression-node fortran-head validate-fortran-type-head fortran-end fortran-node validate-cpp-template-argument validate-parameter validate-parameter-type-list validate-fortran-selector-value validate-fortran-selector validate-fortran-selector-list test follow loop validate-c-family-type validate-expression validate-abstract-declarator validate-fortran-type turn checkF checked validate-structured-syntax
+unfolding kindAt after validate-structured-syntax
 checked-reading lang kinds words (got x at half m) = after m (validate-structured-syntax lang kinds words x)
 checked-reading lang kinds words (bad e m) = fails m
 

@@ -1,9 +1,11 @@
 pub mod Said
 pub mod Declarators
 pub mod Expressions
+pub mod Selectors
+pub mod Checks
 pub mod FortranTypes
-pub mod Structure
-pub mod Represented
+pub mod Syntax
+pub mod RepresentedMoves
 pub mod Allowance
 pub mod VerdictSays
 pub mod Laws

@@ -10,6 +10,10 @@ use Rattle.reader.specs.Nodes.{Nodes}
 pub data Said : Type 0 where
   holds fails : (steps : ℕ) → Said
 
+-- The counted checks that call one another: `validate_c_family_type`, `validate_expression`, `validate_abstract_declarator`.
+pub data Job : Type 0 where
+  a-type an-expression a-declarator : Job
+
 -- So many "Steps" more.
 unfoldable pub after : (steps : ℕ) → Said → Said
 after m (holds n) = holds (m + n)
@@ -17,11 +21,13 @@ after m (fails n) = fails (m + n)
 
 -- `&&`: the second check is given as a function, since it is made, and its steps are taken, only if the first holds.
 unfoldable pub both : Said → (Bool → Said) → Said
+unfolding after
 both (holds m) f = after m (f true)
 both (fails m) f = fails m
 
 -- `||`: the second check is made, and its steps are taken, only if the first fails.
 unfoldable pub either : Said → (Bool → Said) → Said
+unfolding after
 either (holds m) f = holds m
 either (fails m) f = after m (f false)
 
@@ -32,5 +38,6 @@ plain false = fails 0
 
 -- `all`: each in turn, until one fails.
 unfoldable pub every : (Nodes → Said) → List Nodes → Said
+unfolding both
 every f [] = holds 0
 every f (x ∷ xs) = both (f x) (λ _. every f xs)

@@ -5,8 +5,8 @@ use mathlib.Core.List.{List}
 use Rattle.reader.specs.Nodes.{Nodes}
 use Rattle.type_nodes.specs.Moves.{Test}
 use Rattle.type_nodes.specs.Stands.{Stands}
-use Rattle.structure.specs.Said.{Said}
-use Rattle.structure.specs.Structure.{Job, checked, test}
+use Rattle.structure.specs.Said.{Said, Job}
+use Rattle.structure.specs.Checks.{checked, test}
 use Rattle.structure.specs.Allowance.{verdict-within}
 use Rattle.structure.specs.declared.moves.Verdict.{Verdict}
 

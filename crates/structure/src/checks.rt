@@ -2,6 +2,8 @@
 // They stand in one file, and those that the original has no name for have short ones: the prover names what it makes of them after all of them, and
 // crates that use it get what it made only under names of at most 249 bytes.
 
+use crate::declarators::abstract_declarator_node;
+use crate::declarators::c_family_node;
 use crate::expressions::expression_end;
 use crate::expressions::expression_node;
 use crate::moves::DeclaratorLoop;
@@ -13,25 +15,23 @@ use crate::moves::TypeLoop;
 use crate::moves::TypeMove;
 use crate::moves::Verdict;
 use crate::moves::plain;
-use crate::tables::abstract_declarator_node;
-use crate::tables::c_family_node;
 use rows::kinds::STAR;
 use rows::word_numbers::NO_WORD;
+use type_nodes::abstract_declarators::looks_like_abstract_declarator;
+use type_nodes::nodes::exact_word;
 use type_nodes::nodes::is_ellipsis;
 use type_nodes::nodes::is_single_token;
-use type_nodes::nodes::looks_like_abstract_declarator;
 use type_nodes::nodes::node_end;
 use type_nodes::nodes::shape_at;
 use type_nodes::shapes::NO_NODE;
-use type_nodes::specifiers::exact_word;
 use type_nodes::specifiers::validate_c_decl_specifiers;
 use type_nodes::split_on_commas::element_end;
 use type_nodes::split_on_commas::elements_are_full;
 ghost use Rattle.type_nodes.specs.Moves.{type-or-expression, arguments};
 ghost use Rattle.type_nodes.specs.Stands.{WordedNodes};
-ghost use Rattle.structure.specs.Structure.{a-type, a-declarator, an-expression, checked, validate-cpp-template-argument, validate-parameter};
-ghost use Rattle.structure.specs.Structure.{validate-parameter-type-list};
-ghost use Rattle.structure.specs.Represented.{test-of};
+ghost use Rattle.structure.specs.Said.{a-type, a-declarator, an-expression};
+ghost use Rattle.structure.specs.Checks.{checked, validate-cpp-template-argument, validate-parameter, validate-parameter-type-list};
+ghost use Rattle.structure.specs.RepresentedMoves.{test-of};
 ghost use Rattle.structure.specs.VerdictSays.{VerdictSays, Answers, Passes};
 
 pub fn validate_c_family_type(
@@ -56,9 +56,9 @@ pub fn validate_c_family_type(
     let mut before = NO_NODE;
     let mut word_before = NO_WORD;
     let mut st = TypeLoop {
-        word: false,
-        started: false,
-        reference: false,
+        saw_type_word: false,
+        declarator_started: false,
+        saw_reference: false,
     };
     let mut at = from;
     while at < to {
@@ -85,7 +85,7 @@ pub fn validate_c_family_type(
         word_before = word;
         at = end;
     }
-    plain(st.word, left)
+    plain(st.saw_type_word, left)
 }
 
 fn validate_abstract_declarator(
@@ -106,8 +106,8 @@ fn validate_abstract_declarator(
     let mut left = allowed - 1;
     let mut before = NO_NODE;
     let mut st = DeclaratorLoop {
-        operator: false,
-        reference: false,
+        saw_operator: false,
+        saw_reference: false,
     };
     let mut at = from;
     while at < to {
@@ -153,7 +153,7 @@ fn validate_abstract_declarator(
         before = shape;
         at = end;
     }
-    plain(st.operator, left)
+    plain(st.saw_operator, left)
 }
 
 pub fn validate_expression(
@@ -173,9 +173,9 @@ pub fn validate_expression(
     }
     let mut left = allowed - 1;
     let mut st = ExpressionLoop {
-        operand: true,
-        access: false,
-        depth: 0,
+        expects_operand: true,
+        expects_name_after_access: false,
+        conditional_depth: 0,
     };
     let mut at = from;
     while at < to {
@@ -248,7 +248,7 @@ fn test(
             return validate_abstract_declarator(language, tree, kinds, words, from, to, allowed);
         }
         Inner::Arguments => return arguments(language, tree, kinds, words, from, to, allowed),
-        Inner::DeclaratorOrParameters(word) => {
+        Inner::DeclaratorOrParameters(saw_type_word) => {
             if looks_like_abstract_declarator(tree, kinds, from, to) {
                 return validate_abstract_declarator(
                     language,
@@ -260,7 +260,7 @@ fn test(
                     allowed,
                 );
             }
-            if !word {
+            if !saw_type_word {
                 return Verdict::Fails(allowed);
             }
             return validate_parameter_type_list(language, tree, kinds, words, from, to, allowed);

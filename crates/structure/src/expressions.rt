@@ -17,30 +17,22 @@ use type_nodes::sets::is_literal;
 use type_nodes::sets::is_member_access;
 use type_nodes::sets::is_postfix_operator;
 use type_nodes::sets::is_prefix_operator;
+use type_nodes::sets::is_prefix_or_binary_operator;
 use type_nodes::shapes::BRACKETED;
 use type_nodes::shapes::PARENTHESIZED;
 use type_nodes::shapes::TEMPLATE_ARGUMENTS;
 ghost use mathlib.Core.Path.{_≡_};
-ghost use mathlib.Core.Bool.{_&&_, not};
 ghost use Prim.Native.Nat.{_+_, _<_, pred};
-ghost use Rattle.rows.specs.Notation.{if_then_else_, _is-one-of_};
-ghost use Rattle.type_nodes.specs.Sets.{prefix-operators};
+ghost use Rattle.rows.specs.Notation.{if_then_else_};
 ghost use Rattle.type_nodes.specs.Moves.{some-expression, optional-expression};
 ghost use Rattle.structure.specs.Expressions.{expression-node, expression-end};
-ghost use Rattle.structure.specs.Represented.{test-of, expression-state-of, Moves};
+ghost use Rattle.structure.specs.RepresentedMoves.{test-of, expression-state-of, Moves};
 ghost use Rattle.reader.specs.Nodes.{numbers-bound};
 
 pub fn expression_end(st: ExpressionLoop) -> bool
     ensures { λ r. ⌜ r ≡ expression-end (expression-state-of st) ⌝ }
 {
-    !st.operand & !st.access & (st.depth == 0)
-}
-
-// A prefix operator where an operand is expected: elsewhere it is a postfix or binary one.
-fn is_prefix(shape: u8, operand: bool, access: bool) -> bool
-    ensures { λ r. ⌜ r ≡ ((shape is-one-of prefix-operators) && operand && not access) ⌝ }
-{
-    is_prefix_operator(shape) & operand & !access
+    !st.expects_operand & !st.expects_name_after_access & (st.conditional_depth == 0)
 }
 
 fn group_test(operand: bool) -> Inner
@@ -62,12 +54,12 @@ fn less_one(depth: usize) -> usize
 }
 
 pub fn expression_node(language: u8, shape: u8, st: ExpressionLoop) -> ExpressionMove
-    requires { ⌜ st .depth < numbers-bound ⌝ }
-    ensures { λ r. ⌜ Moves (st .depth + 1) r (expression-node language shape (expression-state-of st)) ⌝ }
+    requires { ⌜ st .«conditional_depth» < numbers-bound ⌝ }
+    ensures { λ r. ⌜ Moves (st .«conditional_depth» + 1) r (expression-node language shape (expression-state-of st)) ⌝ }
 {
-    let operand = st.operand;
-    let access = st.access;
-    let depth = st.depth;
+    let operand = st.expects_operand;
+    let access = st.expects_name_after_access;
+    let depth = st.conditional_depth;
     if shape == IDENTIFIER {
         return expression_on_if(operand, false, false, depth);
     }
@@ -80,23 +72,21 @@ pub fn expression_node(language: u8, shape: u8, st: ExpressionLoop) -> Expressio
     if is_member_access(shape) {
         return expression_on_if(!operand & is_access_of(language, shape), true, true, depth);
     }
-    if is_prefix(shape, operand, access) {
-        return expression_on_if(true, operand, access, depth);
+    if is_prefix_operator(shape) & operand & !access {
+        return ExpressionMove::On(st);
     }
-    if is_postfix_operator(shape) {
-        return expression_on_if(!operand, operand, access, depth);
+    if is_prefix_or_binary_operator(shape) & operand & !access {
+        return ExpressionMove::On(st);
+    }
+    if is_postfix_operator(shape) & !operand {
+        return ExpressionMove::On(st);
     }
     if shape == QUESTION {
         return expression_on_if(!(language == FORTRAN) & !operand, true, access, depth + 1);
     }
     if shape == COLON {
-        let open = !(depth == 0);
-        return expression_on_if(
-            !(language == FORTRAN) & !operand & open,
-            true,
-            access,
-            less_one(depth),
-        );
+        let open = !(language == FORTRAN) & !operand & !(depth == 0);
+        return expression_on_if(open, true, access, less_one(depth));
     }
     if is_binary_or_assignment_operator(language, shape) {
         return expression_on_if(!operand, true, false, depth);
@@ -107,6 +97,9 @@ pub fn expression_node(language: u8, shape: u8, st: ExpressionLoop) -> Expressio
     if shape == BRACKETED {
         return expression_inside_if(!operand, Inner::SomeExpression, false, access, depth);
     }
-    let list = (shape == TEMPLATE_ARGUMENTS) & (language == CPP) & !operand;
-    expression_inside_if(list, Inner::Arguments, operand, access, depth)
+    if shape == TEMPLATE_ARGUMENTS {
+        let list = (language == CPP) & !operand;
+        return expression_inside_if(list, Inner::Arguments, operand, access, depth);
+    }
+    ExpressionMove::Stop(false)
 }

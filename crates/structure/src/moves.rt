@@ -1,11 +1,10 @@
-// What a check does at a node, and what it comes to: specs/Moves.antt.
+// What a check does at a node, and what it comes to: specs/Moves.antt of type_nodes, specs/RepresentedMoves.antt.
 
 ghost use mathlib.Core.Path.{_≡_};
 ghost use Rattle.type_nodes.specs.Moves.{on-if, inside-if};
 ghost use Rattle.structure.specs.Said.{plain};
-ghost use Rattle.structure.specs.Declarators.{type-state, declarator-state};
 ghost use Rattle.structure.specs.Expressions.{expression-state};
-ghost use Rattle.structure.specs.Represented.{test-of, type-move-of, declarator-move-of, Moves};
+ghost use Rattle.structure.specs.RepresentedMoves.{test-of, type-state-of, type-move-of, declarator-state-of, declarator-move-of, Moves};
 ghost use Rattle.structure.specs.Allowance.{verdict-within};
 
 // `Holds` and `Fails` with the steps that are left; `Spent`: the allowance did not last.
@@ -30,28 +29,28 @@ pub enum Inner {
 
 // The variables of `validate_c_family_type`.
 pub struct TypeLoop {
-    pub word: bool,
-    pub started: bool,
-    pub reference: bool,
+    pub saw_type_word: bool,
+    pub declarator_started: bool,
+    pub saw_reference: bool,
 }
 
 // The variables of `validate_abstract_declarator`.
 pub struct DeclaratorLoop {
-    pub operator: bool,
-    pub reference: bool,
+    pub saw_operator: bool,
+    pub saw_reference: bool,
 }
 
 // The variables of `validate_expression`.
 pub struct ExpressionLoop {
-    pub operand: bool,
-    pub access: bool,
-    pub depth: usize,
+    pub expects_operand: bool,
+    pub expects_name_after_access: bool,
+    pub conditional_depth: usize,
 }
 
 // The variables of `validate_fortran_type`.
 pub struct FortranLoop {
-    pub word: bool,
-    pub selector: bool,
+    pub saw_word: bool,
+    pub saw_selector: bool,
 }
 
 pub enum TypeMove {
@@ -89,81 +88,52 @@ pub fn plain(holds: bool, left: usize) -> Verdict
     Verdict::Fails(left)
 }
 
-pub fn type_on_if(ok: bool, word: bool, started: bool, reference: bool) -> TypeMove
-    ensures { λ r. ⌜ type-move-of r ≡ on-if ok (type-state word started reference) ⌝ }
+// `next`: the loop's variables if it goes on.
+pub fn type_on_if(ok: bool, next: TypeLoop) -> TypeMove
+    ensures { λ r. ⌜ type-move-of r ≡ on-if ok (type-state-of next) ⌝ }
 {
     if ok {
-        return TypeMove::On(TypeLoop {
-            word,
-            started,
-            reference,
-        });
+        return TypeMove::On(next);
     }
     TypeMove::Stop(false)
 }
 
-pub fn type_inside_if(
-    ok: bool,
-    inner: Inner,
-    word: bool,
-    started: bool,
-    reference: bool,
-) -> TypeMove
-    ensures { λ r. ⌜ type-move-of r ≡ inside-if ok (test-of inner) (type-state word started reference) ⌝ }
+pub fn type_inside_if(ok: bool, inner: Inner, next: TypeLoop) -> TypeMove
+    ensures { λ r. ⌜ type-move-of r ≡ inside-if ok (test-of inner) (type-state-of next) ⌝ }
 {
     if ok {
-        return TypeMove::Inside(
-            inner,
-            TypeLoop {
-                word,
-                started,
-                reference,
-            },
-        );
+        return TypeMove::Inside(inner, next);
     }
     TypeMove::Stop(false)
 }
 
-pub fn declarator_on_if(ok: bool, operator: bool, reference: bool) -> DeclaratorMove
-    ensures { λ r. ⌜ declarator-move-of r ≡ on-if ok (declarator-state operator reference) ⌝ }
+pub fn declarator_on_if(ok: bool, next: DeclaratorLoop) -> DeclaratorMove
+    ensures { λ r. ⌜ declarator-move-of r ≡ on-if ok (declarator-state-of next) ⌝ }
 {
     if ok {
-        return DeclaratorMove::On(DeclaratorLoop {
-            operator,
-            reference,
-        });
+        return DeclaratorMove::On(next);
     }
     DeclaratorMove::Stop(false)
 }
 
-pub fn declarator_inside_if(
-    ok: bool,
-    inner: Inner,
-    operator: bool,
-    reference: bool,
-) -> DeclaratorMove
-    ensures { λ r. ⌜ declarator-move-of r ≡ inside-if ok (test-of inner) (declarator-state operator reference) ⌝ }
+pub fn declarator_inside_if(ok: bool, inner: Inner, next: DeclaratorLoop) -> DeclaratorMove
+    ensures { λ r. ⌜ declarator-move-of r ≡ inside-if ok (test-of inner) (declarator-state-of next) ⌝ }
 {
     if ok {
-        return DeclaratorMove::Inside(
-            inner,
-            DeclaratorLoop {
-                operator,
-                reference,
-            },
-        );
+        return DeclaratorMove::Inside(inner, next);
     }
     DeclaratorMove::Stop(false)
 }
 
+// `operand`, `access`, `depth`: the loop's variables if it goes on.
 pub fn expression_on_if(ok: bool, operand: bool, access: bool, depth: usize) -> ExpressionMove
     ensures { λ r. ⌜ Moves depth r (on-if ok (expression-state operand access depth)) ⌝ }
 {
     if ok {
         return ExpressionMove::On(ExpressionLoop {
-            operand,
-            access,
-            depth,
+            expects_operand: operand,
+            expects_name_after_access: access,
+            conditional_depth: depth,
         });
     }
     ExpressionMove::Stop(false)
@@ -182,9 +152,9 @@ pub fn expression_inside_if(
         return ExpressionMove::Inside(
             inner,
             ExpressionLoop {
-                operand,
-                access,
-                depth,
+                expects_operand: operand,
+                expects_name_after_access: access,
+                conditional_depth: depth,
             },
         );
     }

@@ -13,7 +13,7 @@ use type_nodes::split_on_commas::element_end;
 use type_nodes::split_on_commas::elements_are_full;
 ghost use mathlib.Core.Path.{_≡_};
 ghost use Rattle.type_nodes.specs.Stands.{WordedNodes};
-ghost use Rattle.structure.specs.Structure.{validate-fortran-selector-value, validate-fortran-selector, validate-fortran-selector-list};
+ghost use Rattle.structure.specs.Selectors.{validate-fortran-selector-value, validate-fortran-selector, validate-fortran-selector-list};
 ghost use Rattle.structure.specs.VerdictSays.{Answers};
 
 fn validate_fortran_selector_value(

@@ -1,12 +1,12 @@
 // The structure check of a tree.
 
 use crate::checks::validate_c_family_type;
-use crate::fortran::validate_fortran_type;
+use crate::fortran_types::validate_fortran_type;
 use crate::moves::Verdict;
 use rows::languages::FORTRAN;
 ghost use mathlib.Core.Path.{_≡_};
 ghost use Rattle.type_nodes.specs.Stands.{WordedNodes};
-ghost use Rattle.structure.specs.Structure.{validate-structured-syntax};
+ghost use Rattle.structure.specs.Syntax.{validate-structured-syntax};
 ghost use Rattle.structure.specs.VerdictSays.{VerdictSays};
 
 // `allowed`: the steps that are left to it.

@@ -3,21 +3,24 @@ use Prim.Native.Nat.{ℕ, suc, _+_, _≤_, _<_}
 use mathlib.Core.Path.{_≡_, refl, sym, ap, _∙_, subst}
 use mathlib.Core.Bool.{Bool, true, false}
 use mathlib.Core.List.{List}
+use native.Mathlib.Nat.{zero-add}
 use Rattle.rows.specs.Kinds.{Integer}
 use Rattle.rows.specs.Words.{no-word, exactly}
-use Rattle.reader.specs.Nodes.{Nodes, count}
-use Rattle.type_nodes.specs.Shapes.{NoNode, next, shape, exact-word, is-single-token}
+use Rattle.reader.specs.Nodes.{Nodes, none, node, count}
+use Rattle.type_nodes.specs.Shapes.{NoNode}
+use Rattle.type_nodes.specs.Nodes.{next, shape, exact-word, is-single-token}
 use Rattle.type_nodes.specs.Moves.{Move}
 use Rattle.type_nodes.specs.Specifiers.{validate-c-decl-specifiers}
 use Rattle.type_nodes.specs.Stands.{Of, below}
-use Rattle.structure.specs.Said.{Said, after, both, plain}
+use Rattle.structure.specs.Said.{Said, holds, fails, after, both, plain, a-type, an-expression, a-declarator}
 use Rattle.structure.specs.Declarators.{TypeState, type-state, type-end, c-family-node, DeclaratorState, declarator-state, declarator-end, abstract-declarator-node}
 use Rattle.structure.specs.Expressions.{ExpressionState, expression-state, expression-end, expression-node}
-use Rattle.structure.specs.FortranTypes.{FortranState, fortran-state, fortran-end, fortran-node, validate-fortran-type-head}
-use Rattle.structure.specs.Structure.{a-type, an-expression, a-declarator, checked, turn, loop, type-move, declarator-move, expression-move, fortran-move}
-use Rattle.structure.specs.Structure.{validate-c-family-type, validate-expression, validate-abstract-declarator, validate-fortran-type}
-use Rattle.structure.specs.Represented.{type-state-of, type-move-of, declarator-state-of, declarator-move-of, expression-state-of, expression-move-of}
-use Rattle.structure.specs.Represented.{fortran-state-of, fortran-move-of, Moves, Waits}
+use Rattle.structure.specs.FortranTypes.{FortranState, fortran-state, fortran-end, fortran-node, validate-fortran-type-head, fortran-move}
+use Rattle.structure.specs.Checks.{checked, turn, loop, type-move, declarator-move, expression-move}
+use Rattle.structure.specs.Checks.{validate-c-family-type, validate-expression, validate-abstract-declarator}
+use Rattle.structure.specs.FortranTypes.{validate-fortran-type}
+use Rattle.structure.specs.RepresentedMoves.{type-state-of, type-move-of, declarator-state-of, declarator-move-of, expression-state-of, expression-move-of}
+use Rattle.structure.specs.RepresentedMoves.{fortran-state-of, fortran-move-of, Moves, Waits}
 use Rattle.structure.specs.Laws.Fixed.{fixed}
 use Rattle.structure.specs.Laws.Walks.{after-it}
 use Rattle.structure.specs.Laws.Loops.{Run}
@@ -34,6 +37,11 @@ use Rattle.structure.specs.declared.moves.FortranMove.{FortranMove}
 
 -- ---- the entries
 
+after-none : (s : Said) → after 0 s ≡ s
+unfolding after
+after-none (holds n) = ap holds (zero-add n)
+after-none (fails n) = ap fails (zero-add n)
+
 module _ (lang : ℕ) (kinds words : List ℕ) where
   abbrev type-body : Nodes → Said
   type-body x = loop lang kinds words (checked lang kinds words) TypeState (type-move lang kinds words) type-end x NoNode no-word (type-state false false false)
@@ -49,22 +57,27 @@ module _ (lang : ℕ) (kinds words : List ℕ) where
   abbrev fortran-body : Nodes → Said
   fortran-body x = loop lang kinds words (checked lang kinds words) FortranState (fortran-move lang kinds words) fortran-end x NoNode no-word (fortran-state false false)
 
+  -- A list without a node fails without the test for one: the code has no such test.
   pub type-entry : (x : Nodes) → checked lang kinds words a-type x ≡ after 1 (both (plain (validate-c-decl-specifiers lang kinds words x)) (λ _. type-body x))
-  unfolding turn validate-c-family-type
-  type-entry x = fixed lang kinds words a-type x
+  unfolding turn validate-c-family-type validate-c-decl-specifiers both plain
+  type-entry none = fixed lang kinds words a-type none
+  type-entry (node k i b x) = fixed lang kinds words a-type (node k i b x)
 
   pub declarator-entry : (x : Nodes) → checked lang kinds words a-declarator x ≡ after 1 (declarator-body x)
-  unfolding turn validate-abstract-declarator
-  declarator-entry x = fixed lang kinds words a-declarator x
+  unfolding turn validate-abstract-declarator both plain
+  declarator-entry none = fixed lang kinds words a-declarator none
+  declarator-entry (node k i b x) = fixed lang kinds words a-declarator (node k i b x) ∙ ap (after 1) (after-none (declarator-body (node k i b x)))
 
   pub expression-entry : (x : Nodes) → checked lang kinds words an-expression x ≡ after 1 (expression-body x)
-  unfolding turn validate-expression
-  expression-entry x = fixed lang kinds words an-expression x
+  unfolding turn validate-expression both plain
+  expression-entry none = fixed lang kinds words an-expression none
+  expression-entry (node k i b x) = fixed lang kinds words an-expression (node k i b x) ∙ ap (after 1) (after-none (expression-body (node k i b x)))
 
   pub fortran-entry : (x : Nodes) → validate-fortran-type lang kinds words (checked lang kinds words) x
       ≡ after 1 (both (plain (validate-fortran-type-head kinds words x)) (λ _. fortran-body x))
-  unfolding validate-fortran-type
-  fortran-entry x = refl
+  unfolding validate-fortran-type validate-fortran-type-head both plain
+  fortran-entry none = refl
+  fortran-entry (node k i b x) = refl
 
 -- ---- the loops
 
@@ -83,7 +96,7 @@ module _ (lang : ℕ) (tree kinds words : List ℕ) (from to allowed left : ℕ)
   -- No more `?` wait than nodes were met.
   abbrev pub InExpression : (st : ExpressionLoop) (at : ℕ) → Type 0
   InExpression st at =
-      Run lang kinds words ExpressionState (expression-move lang kinds words) expression-end (checked lang kinds words an-expression) (λ l w. st .depth ≤ at)
+      Run lang kinds words ExpressionState (expression-move lang kinds words) expression-end (checked lang kinds words an-expression) (λ l w. st .«conditional_depth» ≤ at)
       tree from to allowed left (expression-state-of st) at
 
   abbrev pub InFortran : (st : FortranLoop) (at : ℕ) → Type 0
@@ -126,10 +139,10 @@ module _ {lang : ℕ} {tree kinds words : List ℕ} {from to allowed left : ℕ}
   expression-moved q = rw (← sh (lp .walk .rest) (lp .walk .stands)) (sym (mv .is) ∙ ap expression-move-of q)
 
 module _ {n : ℕ} {m : ExpressionMove} {a : Move ExpressionState} (mv : Moves n m a) where
-  pub waits-on : {st : ExpressionLoop} → m ≡ E.On st → st .depth ≤ n
+  pub waits-on : {st : ExpressionLoop} → m ≡ E.On st → st .«conditional_depth» ≤ n
   waits-on q = subst (λ (u : ExpressionMove). Waits n u) q (mv .waits)
 
-  pub waits-inside : {t : Inner} {st : ExpressionLoop} → m ≡ E.Inside t st → st .depth ≤ n
+  pub waits-inside : {t : Inner} {st : ExpressionLoop} → m ≡ E.Inside t st → st .«conditional_depth» ≤ n
   waits-inside q = subst (λ (u : ExpressionMove). Waits n u) q (mv .waits)
 
 module _ {lang : ℕ} {tree kinds words : List ℕ} {from to allowed left : ℕ} {st : FortranLoop} {at : ℕ}

@@ -7,9 +7,9 @@ use mathlib.Core.List.{List, [], _∷_}
 use native.Mathlib.Omega.{arith}
 use lib.ListN.{length}
 use Rattle.reader.specs.Nodes.{Nodes, none, node, count}
-use Rattle.type_nodes.specs.Shapes.{empty, next, split-on-commas, arguments-of}
-use Rattle.type_nodes.specs.Stands.{Stands, NodesStand, WordedNodes, Of, below}
-use Rattle.type_nodes.specs.Elements.{first-element, from-comma}
+use Rattle.type_nodes.specs.Nodes.{empty, next, arguments-of}
+use Rattle.type_nodes.specs.SplitOnCommas.{split-on-commas}
+use Rattle.type_nodes.specs.Stands.{first-element, from-comma, Stands, NodesStand, WordedNodes, Of, below}
 use Rattle.type_nodes.specs.Laws.Siblings.{first, nothing-left, stands-count}
 use Rattle.type_nodes.specs.Laws.Elements.{others, split-first, others-next, others-none, element-stands, comma-stands}
 use Rattle.structure.specs.Said.{Said, both, plain, every}

@@ -8,14 +8,19 @@ use native.Mathlib.Omega.{arith}
 use lib.Dec.{eqb}
 use Rattle.rows.specs.Notation.{if_then_else_}
 use Rattle.rows.specs.Kinds.{Comma}
+use Rattle.rows.specs.Words.{no-word}
 use Rattle.reader.specs.Nodes.{NodeKind, Nodes, none, node, count}
-use Rattle.type_nodes.specs.Shapes.{empty, next, arguments-of, prepend, elements-are-full, shape, node-identifier, is-single-token, is-ellipsis, split-on-commas}
+use Rattle.type_nodes.specs.Shapes.{NoNode}
+use Rattle.type_nodes.specs.Nodes.{empty, next, arguments-of, shape, node-identifier}
+use Rattle.type_nodes.specs.SplitOnCommas.{prepend, split-on-commas}
 use Rattle.type_nodes.specs.Moves.{Test, expression, some-expression, optional-expression, array-bound, type-name, type-or-expression, declarator, arguments, selectors, declarator-or-parameters, Move, stop, on, inside}
 use Rattle.type_nodes.specs.AbstractDeclarators.{looks-like-abstract-declarator}
-use Rattle.structure.specs.Said.{Said, holds, fails, after, both, either, plain, every}
-use Rattle.structure.specs.Declarators.{TypeState, type-end, DeclaratorState, declarator-end}
-use Rattle.structure.specs.Expressions.{ExpressionState, expression-end}
-use Rattle.structure.specs.Structure.{Job, a-type, an-expression, a-declarator, validate-cpp-template-argument, validate-parameter, validate-parameter-type-list, validate-fortran-selector-value, validate-fortran-selector, validate-fortran-selector-list, test, follow, loop, validate-c-family-type, validate-abstract-declarator, validate-expression, turn, checkF, checked}
+use Rattle.type_nodes.specs.Specifiers.{validate-c-decl-specifiers}
+use Rattle.structure.specs.Said.{Said, holds, fails, Job, a-type, an-expression, a-declarator, after, both, either, plain, every}
+use Rattle.structure.specs.Declarators.{TypeState, type-state, type-end, DeclaratorState, declarator-state, declarator-end}
+use Rattle.structure.specs.Expressions.{ExpressionState, expression-state, expression-end}
+use Rattle.structure.specs.Checks.{type-move, expression-move, declarator-move, validate-cpp-template-argument, validate-parameter, validate-parameter-type-list, test, follow, loop, validate-c-family-type, validate-abstract-declarator, validate-expression, turn, checkF, checked}
+use Rattle.structure.specs.Selectors.{validate-fortran-selector-value, validate-fortran-selector, validate-fortran-selector-list}
 
 both-same : (a a′ : Said) (f g : Bool → Said) → a ≡ a′ → ((t : Bool) → f t ≡ g t) → both a f ≡ both a′ g
 unfolding both
@@ -135,9 +140,15 @@ module _ (lang : ℕ) (kinds words : List ℕ) where
 
     turn-same : (j : Job) (x : Nodes) → count x ≤ n → turn lang kinds words r j x ≡ turn lang kinds words s j x
     unfolding turn validate-c-family-type validate-abstract-declarator validate-expression
-    turn-same a-type x h = ap (after 1) (both-same _ _ _ _ refl (λ t. run-same TypeState _ type-end x _ _ _ h))
-    turn-same an-expression x h = ap (after 1) (run-same ExpressionState _ expression-end x _ _ _ h)
-    turn-same a-declarator x h = ap (after 1) (run-same DeclaratorState _ declarator-end x _ _ _ h)
+    turn-same a-type x h =
+        ap (after 1) (both-same (plain (not (empty x) && validate-c-decl-specifiers lang kinds words x)) _ _ _ refl
+        (λ t. run-same TypeState (type-move lang kinds words) type-end x NoNode no-word (type-state false false false) h))
+    turn-same an-expression x h =
+        ap (after 1) (both-same (plain (not (empty x))) _ _ _ refl
+        (λ t. run-same ExpressionState (expression-move lang kinds words) expression-end x NoNode no-word (expression-state true false 0) h))
+    turn-same a-declarator x h =
+        ap (after 1) (both-same (plain (not (empty x))) _ _ _ refl
+        (λ t. run-same DeclaratorState (declarator-move lang kinds words) declarator-end x NoNode no-word (declarator-state false false) h))
 
   -- any two fuels that are enough give the same
   pub enough : (f g : ℕ) (j : Job) (x : Nodes) → count x < f → count x < g → checkF lang kinds words f j x ≡ checkF lang kinds words g j x

@@ -5,12 +5,11 @@ use mathlib.Core.Bool.{Bool, true, false}
 use mathlib.Core.List.{List}
 use native.Mathlib.Omega.{arith}
 use Rattle.rows.specs.Words.{ignoring-case}
-use Rattle.reader.specs.Nodes.{Nodes, none, node, count}
-use Rattle.type_nodes.specs.Shapes.{next, shape, node-identifier}
-use Rattle.type_nodes.specs.Stands.{Stands, NodesStand, WordedNodes, Of, Finds, below}
-use Rattle.type_nodes.specs.Laws.Siblings.{first, there, found-there}
-use Rattle.type_nodes.specs.declared.nodes.Lookup.{Lookup}
-use Rattle.type_nodes.specs.declared.nodes.Lookup.the-variants.{Node, Nothing}
+use Rattle.reader.specs.Nodes.{Nodes, none, node}
+use Rattle.type_nodes.specs.Nodes.{next, shape, node-identifier}
+use Rattle.type_nodes.specs.Stands.{Stands, NodesStand, Finds}
+use Rattle.type_nodes.specs.Laws.Siblings.{first, there}
+use Rattle.type_nodes.specs.declared.nodes.Lookup.the-variants.{Node}
 use Rattle.structure.specs.FortranTypes.{fortran-head, validate-fortran-type-head}
 
 pub no-head : (kinds words : List ℕ) (x : Nodes) → x ≡ none → false ≡ validate-fortran-type-head kinds words x

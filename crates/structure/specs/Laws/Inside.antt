@@ -7,16 +7,17 @@ use mathlib.Core.List.{List}
 use borrow.Author.Tests.{eq-eqb, ne-eqb}
 use Rattle.rows.specs.Kinds.{Identifier, Equal, Star, Colon}
 use Rattle.reader.specs.Nodes.{Nodes, count}
-use Rattle.type_nodes.specs.Shapes.{empty, next, shape, is-single-token, split-on-commas, elements-are-full}
+use Rattle.type_nodes.specs.Nodes.{empty, next, shape, is-single-token}
+use Rattle.type_nodes.specs.SplitOnCommas.{split-on-commas, elements-are-full}
 use Rattle.type_nodes.specs.Moves.{declarator, declarator-or-parameters}
 use Rattle.type_nodes.specs.AbstractDeclarators.{looks-like-abstract-declarator}
 use Rattle.type_nodes.specs.Stands.{Stands, ends, here, Of, below}
 use Rattle.type_nodes.specs.Laws.Siblings.{empty-range}
 use Rattle.type_nodes.specs.Laws.Commas.{stands-next}
-use Rattle.structure.specs.Said.{Said, both, either, plain, every}
-use Rattle.structure.specs.Structure.{a-declarator, checked, test, validate-parameter-type-list}
-use Rattle.structure.specs.Structure.{validate-parameter, validate-fortran-selector, validate-fortran-selector-value, validate-fortran-selector-list}
-use Rattle.structure.specs.Represented.{test-of}
+use Rattle.structure.specs.Said.{Said, both, either, plain, every, a-declarator}
+use Rattle.structure.specs.Checks.{checked, test, validate-parameter-type-list, validate-parameter}
+use Rattle.structure.specs.Selectors.{validate-fortran-selector, validate-fortran-selector-value, validate-fortran-selector-list}
+use Rattle.structure.specs.RepresentedMoves.{test-of}
 use Rattle.structure.specs.Allowance.{verdict-within}
 use Rattle.structure.specs.VerdictSays.{VerdictSays, Answers, Passes}
 use Rattle.structure.specs.Laws.Limits.{on-holds, on-fails, Settles, limited-both, limited-either, limited-yes, limited-no}

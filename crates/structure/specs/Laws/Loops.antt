@@ -6,12 +6,13 @@ use mathlib.Core.List.{List}
 use native.Mathlib.Omega.{arith}
 use Rattle.rows.specs.Words.{no-word}
 use Rattle.reader.specs.Nodes.{Nodes, none, node, count}
-use Rattle.type_nodes.specs.Shapes.{NoNode, empty, next, shape, node-identifier}
+use Rattle.type_nodes.specs.Shapes.{NoNode}
+use Rattle.type_nodes.specs.Nodes.{empty, next, shape, node-identifier}
 use Rattle.type_nodes.specs.Moves.{Test, Move, stop, on, inside}
 use Rattle.type_nodes.specs.Stands.{Stands, NodesStand, Of, below}
 use Rattle.type_nodes.specs.Laws.Siblings.{first, nothing-left}
 use Rattle.structure.specs.Said.{Said, after, both, plain}
-use Rattle.structure.specs.Structure.{checked, test, follow, loop}
+use Rattle.structure.specs.Checks.{checked, test, follow, loop}
 use Rattle.structure.specs.Allowance.{verdict-within}
 use Rattle.structure.specs.VerdictSays.{VerdictSays, Passes}
 use Rattle.structure.specs.Laws.Limits.{limited-entry, limited-none, limited-yes, limited-no, limited-both, on-holds, Stops}

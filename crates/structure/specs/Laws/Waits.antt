@@ -4,7 +4,7 @@ use mathlib.Core.Path.{_≡_, _∙_}
 use native.Mathlib.Omega.{arith}
 use Rattle.type_nodes.specs.Moves.{Move}
 use Rattle.structure.specs.Expressions.{ExpressionState}
-use Rattle.structure.specs.Represented.{Waits, Moves}
+use Rattle.structure.specs.RepresentedMoves.{Waits, Moves}
 use Rattle.structure.specs.declared.moves.ExpressionMove.{ExpressionMove}
 use Rattle.structure.specs.declared.moves.ExpressionMove.the-variants as E
 

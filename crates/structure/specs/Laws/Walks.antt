@@ -7,7 +7,7 @@ use native.Mathlib.Omega.{arith}
 use native.Mathlib.Numerals.{add-one}
 use lib.ListN.{length}
 use Rattle.reader.specs.Nodes.{Nodes, count, node-width, numbers-bound}
-use Rattle.type_nodes.specs.Shapes.{next}
+use Rattle.type_nodes.specs.Nodes.{next}
 use Rattle.type_nodes.specs.Stands.{Stands, NodesStand, WordedNodes, Of, below}
 use Rattle.type_nodes.specs.Laws.Siblings.{first, unique}
 use Rattle.structure.specs.Said.{Said, both, plain}

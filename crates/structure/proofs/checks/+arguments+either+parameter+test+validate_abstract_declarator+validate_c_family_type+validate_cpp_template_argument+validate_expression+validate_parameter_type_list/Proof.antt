@@ -10,7 +10,7 @@ use denote.Enum.Declared.{tagOf}
 use Rattle.structure.proofs.moves.Verdict.{the-type}
 use Rattle.type_nodes.specs.Moves.{arguments}
 use Rattle.structure.specs.Declarators.{type-end, declarator-end}
-use Rattle.structure.specs.Structure.{checked, test, validate-cpp-template-argument, validate-parameter, validate-parameter-type-list}
+use Rattle.structure.specs.Checks.{checked, test, validate-cpp-template-argument, validate-parameter, validate-parameter-type-list}
 use Rattle.structure.specs.Laws.Limits.{not-holds, not-fails}
 use Rattle.structure.specs.Laws.Walks.{walk-start, walk-formed, walk-stops, walk-holds, walk-further, walk-fits, walk-below, walk-after}
 use Rattle.structure.specs.Laws.Loops.{entry-spent, entry, head-fails, head-holds, run-start, run-end, run-stop, run-on, run-stops, run-inside}
@@ -53,14 +53,14 @@ use Rattle.structure.proofs.checks.+arguments+either+parameter+test+val
 use Rattle.structure.proofs.expressions.expression_end.Reads as expression-end-reads
 use Rattle.structure.proofs.expressions.expression_node.Reads as expression-node-reads
 use Rattle.structure.proofs.moves.plain.Reads as plain-reads
-use Rattle.structure.proofs.tables.abstract_declarator_node.Reads as abstract-declarator-node-reads
-use Rattle.structure.proofs.tables.c_family_node.Reads as c-family-node-reads
+use Rattle.structure.proofs.declarators.abstract_declarator_node.Reads as abstract-declarator-node-reads
+use Rattle.structure.proofs.declarators.c_family_node.Reads as c-family-node-reads
 use Rattle.type_nodes.proofs.nodes.is_ellipsis.Reads as is-ellipsis-reads
 use Rattle.type_nodes.proofs.nodes.is_single_token.Reads as is-single-token-reads
-use Rattle.type_nodes.proofs.nodes.looks_like_abstract_declarator.Reads as looks-like-abstract-declarator-reads
+use Rattle.type_nodes.proofs.abstract_declarators.looks_like_abstract_declarator.Reads as looks-like-abstract-declarator-reads
 use Rattle.type_nodes.proofs.nodes.node_end.Reads as node-end-reads
 use Rattle.type_nodes.proofs.nodes.shape_at.Reads as shape-at-reads
-use Rattle.type_nodes.proofs.specifiers.exact_word.Reads as exact-word-reads
+use Rattle.type_nodes.proofs.nodes.exact_word.Reads as exact-word-reads
 use Rattle.type_nodes.proofs.specifiers.validate_c_decl_specifiers.Reads as validate-c-decl-specifiers-reads
 use Rattle.type_nodes.proofs.split_on_commas.element_end.Reads as element-end-reads
 use Rattle.type_nodes.proofs.split_on_commas.elements_are_full.Reads as elements-are-full-reads

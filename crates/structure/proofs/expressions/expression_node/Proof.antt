@@ -4,14 +4,13 @@ use mathlib.Core.Bool.{Bool, _&&_, not}
 use native.Mathlib.Omega.{arith}
 use borrow.Author.Needs.{needs}
 use Rattle.structure.specs.Laws.Waits.{again}
-use Rattle.structure.specs.Laws.Tables.{expression-1, expression-2, expression-3, expression-4, expression-5, expression-6, expression-7, expression-8, expression-9, expression-10, expression-11, expression-12}
+use Rattle.structure.specs.Laws.Tables.{expression-1, expression-2, expression-3, expression-4, expression-5, expression-6, expression-7, expression-8, expression-9, expression-10, expression-11, expression-12, expression-13, expression-14}
 use borrow.Author.Needs.{needs}
 use Rattle.structure.proofs.expressions.expression_node.Statement.{statement}
 use Rattle.structure.proofs.expressions.expression_node.Tie as tie
 use Rattle.structure.proofs.expressions.expression_node.Reads as reads
 use Rattle.structure.proofs.expressions.expression_node.Lts as lts
 use Rattle.structure.proofs.expressions.group_test.Reads as group-test-reads
-use Rattle.structure.proofs.expressions.is_prefix.Reads as is-prefix-reads
 use Rattle.structure.proofs.expressions.less_one.Reads as less-one-reads
 use Rattle.structure.proofs.moves.expression_inside_if.Reads as expression-inside-if-reads
 use Rattle.structure.proofs.moves.expression_on_if.Reads as expression-on-if-reads
@@ -20,6 +19,8 @@ use Rattle.type_nodes.proofs.sets.is_binary_or_assignment_operator.Reads as is-
 use Rattle.type_nodes.proofs.sets.is_literal.Reads as is-literal-reads
 use Rattle.type_nodes.proofs.sets.is_member_access.Reads as is-member-access-reads
 use Rattle.type_nodes.proofs.sets.is_postfix_operator.Reads as is-postfix-operator-reads
+use Rattle.type_nodes.proofs.sets.is_prefix_operator.Reads as is-prefix-operator-reads
+use Rattle.type_nodes.proofs.sets.is_prefix_or_binary_operator.Reads as is-prefix-or-binary-operator-reads
 
 expression-on-if-requires : tie.Need-expression-on-if-requires
 expression-on-if-requires c κs = search needs
@@ -54,50 +55,50 @@ expression-on-if-requires-4 c κs = search needs
 returns-4 : tie.Need-returns-4
 returns-4 c = again (c .expression-on-if4 .ensures) (omega arith) (rw (c .before .is-access-of .ensures) (expression-4 _ _ _ _ _ (c .before .before .before .before .before .before .before .if1 .left) (sym (c .before .before .before .before .before .before .is-literal .ensures) ∙ c .before .before .before .before .before .if2 .left) (c .before .before .before .before .if3 .left) (sym (c .before .before .before .is-member-access .ensures) ∙ c .before .before .if4 .taken)))
 
-is-prefix-requires : tie.Need-is-prefix-requires
-is-prefix-requires c κs = search needs
-
-expression-on-if-requires-5 : tie.Need-expression-on-if-requires-5
-expression-on-if-requires-5 c κs = search needs
+is-prefix-operator-requires : tie.Need-is-prefix-operator-requires
+is-prefix-operator-requires c κs = search needs
 
 returns-5 : tie.Need-returns-5
-returns-5 c = again (c .expression-on-if5 .ensures) (omega arith) (expression-5 _ _ _ _ _ (c .before .before .before .before .before .before .before .before .if1 .left) (sym (c .before .before .before .before .before .before .before .is-literal .ensures) ∙ c .before .before .before .before .before .before .if2 .left) (c .before .before .before .before .before .if3 .left) (sym (c .before .before .before .before .is-member-access .ensures) ∙ c .before .before .before .if4 .left) (sym (c .before .before .is-prefix .ensures) ∙ c .before .if5 .taken))
+returns-5 c = record { is = expression-5 _ _ _ _ _ (c .before .before .before .before .before .before .before .if1 .left) (sym (c .before .before .before .before .before .before .is-literal .ensures) ∙ c .before .before .before .before .before .if2 .left) (c .before .before .before .before .if3 .left) (sym (c .before .before .before .is-member-access .ensures) ∙ c .before .before .if4 .left) (rw (c .before .is-prefix-operator .ensures) at (c .if5 .taken)); waits = omega arith }
+
+is-prefix-or-binary-operator-requires : tie.Need-is-prefix-or-binary-operator-requires
+is-prefix-or-binary-operator-requires c κs = search needs
+
+returns-6 : tie.Need-returns-6
+returns-6 c = record { is = expression-6 _ _ _ _ _ (c .before .before .before .before .before .before .before .before .before .if1 .left) (sym (c .before .before .before .before .before .before .before .before .is-literal .ensures) ∙ c .before .before .before .before .before .before .before .if2 .left) (c .before .before .before .before .before .before .if3 .left) (sym (c .before .before .before .before .before .is-member-access .ensures) ∙ c .before .before .before .before .if4 .left) (rw (c .before .before .before .is-prefix-operator .ensures) at (c .before .before .if5 .left)) (rw (c .before .is-prefix-or-binary-operator .ensures) at (c .if6 .taken)); waits = omega arith }
 
 is-postfix-operator-requires : tie.Need-is-postfix-operator-requires
 is-postfix-operator-requires c κs = search needs
 
-expression-on-if-requires-6 : tie.Need-expression-on-if-requires-6
-expression-on-if-requires-6 c κs = search needs
-
-returns-6 : tie.Need-returns-6
-returns-6 c = again (c .expression-on-if6 .ensures) (omega arith) (expression-6 _ _ _ _ _ (c .before .before .before .before .before .before .before .before .before .before .if1 .left) (sym (c .before .before .before .before .before .before .before .before .before .is-literal .ensures) ∙ c .before .before .before .before .before .before .before .before .if2 .left) (c .before .before .before .before .before .before .before .if3 .left) (sym (c .before .before .before .before .before .before .is-member-access .ensures) ∙ c .before .before .before .before .before .if4 .left) (sym (c .before .before .before .before .is-prefix .ensures) ∙ c .before .before .before .if5 .left) (sym (c .before .before .is-postfix-operator .ensures) ∙ c .before .if6 .taken))
+returns-7 : tie.Need-returns-7
+returns-7 c = record { is = expression-7 _ _ _ _ _ (c .before .before .before .before .before .before .before .before .before .before .before .if1 .left) (sym (c .before .before .before .before .before .before .before .before .before .before .is-literal .ensures) ∙ c .before .before .before .before .before .before .before .before .before .if2 .left) (c .before .before .before .before .before .before .before .before .if3 .left) (sym (c .before .before .before .before .before .before .before .is-member-access .ensures) ∙ c .before .before .before .before .before .before .if4 .left) (rw (c .before .before .before .before .before .is-prefix-operator .ensures) at (c .before .before .before .before .if5 .left)) (rw (c .before .before .before .is-prefix-or-binary-operator .ensures) at (c .before .before .if6 .left)) (rw (c .before .is-postfix-operator .ensures) at (c .if7 .taken)); waits = omega arith }
 
 add-expression-on-if : tie.Need-add-expression-on-if
 add-expression-on-if c = search needs
 
-expression-on-if-requires-7 : tie.Need-expression-on-if-requires-7
-expression-on-if-requires-7 c κs = search needs
+expression-on-if-requires-5 : tie.Need-expression-on-if-requires-5
+expression-on-if-requires-5 c κs = search needs
 
-returns-7 : tie.Need-returns-7
-returns-7 c = again (c .expression-on-if7 .ensures) (omega arith) (expression-7 _ _ _ _ _ (c .before .before .before .before .before .before .before .before .before .before .before .if1 .left) (sym (c .before .before .before .before .before .before .before .before .before .before .is-literal .ensures) ∙ c .before .before .before .before .before .before .before .before .before .if2 .left) (c .before .before .before .before .before .before .before .before .if3 .left) (sym (c .before .before .before .before .before .before .before .is-member-access .ensures) ∙ c .before .before .before .before .before .before .if4 .left) (sym (c .before .before .before .before .before .is-prefix .ensures) ∙ c .before .before .before .before .if5 .left) (sym (c .before .before .before .is-postfix-operator .ensures) ∙ c .before .before .if6 .left) (c .before .if7 .taken))
+returns-8 : tie.Need-returns-8
+returns-8 c = again (c .expression-on-if5 .ensures) (omega arith) (expression-8 _ _ _ _ _ (c .before .before .before .before .before .before .before .before .before .before .before .before .before .if1 .left) (sym (c .before .before .before .before .before .before .before .before .before .before .before .before .is-literal .ensures) ∙ c .before .before .before .before .before .before .before .before .before .before .before .if2 .left) (c .before .before .before .before .before .before .before .before .before .before .if3 .left) (sym (c .before .before .before .before .before .before .before .before .before .is-member-access .ensures) ∙ c .before .before .before .before .before .before .before .before .if4 .left) (rw (c .before .before .before .before .before .before .before .is-prefix-operator .ensures) at (c .before .before .before .before .before .before .if5 .left)) (rw (c .before .before .before .before .before .is-prefix-or-binary-operator .ensures) at (c .before .before .before .before .if6 .left)) (rw (c .before .before .before .is-postfix-operator .ensures) at (c .before .before .if7 .left)) (c .before .if8 .taken))
 
 less-one-requires : tie.Need-less-one-requires
 less-one-requires c κs = search needs
 
-expression-on-if-requires-8 : tie.Need-expression-on-if-requires-8
-expression-on-if-requires-8 c κs = search needs
+expression-on-if-requires-6 : tie.Need-expression-on-if-requires-6
+expression-on-if-requires-6 c κs = search needs
 
-returns-8 : tie.Need-returns-8
-returns-8 c = again (c .expression-on-if8 .ensures) (omega (arith, c .before .less-one .ensures)) (rw (c .before .less-one .ensures) (expression-8 _ _ _ _ _ (c .before .before .before .before .before .before .before .before .before .before .before .before .before .if1 .left) (sym (c .before .before .before .before .before .before .before .before .before .before .before .before .is-literal .ensures) ∙ c .before .before .before .before .before .before .before .before .before .before .before .if2 .left) (c .before .before .before .before .before .before .before .before .before .before .if3 .left) (sym (c .before .before .before .before .before .before .before .before .before .is-member-access .ensures) ∙ c .before .before .before .before .before .before .before .before .if4 .left) (sym (c .before .before .before .before .before .before .before .is-prefix .ensures) ∙ c .before .before .before .before .before .before .if5 .left) (sym (c .before .before .before .before .before .is-postfix-operator .ensures) ∙ c .before .before .before .before .if6 .left) (c .before .before .before .if7 .left) (c .before .before .if8 .taken)))
+returns-9 : tie.Need-returns-9
+returns-9 c = again (c .expression-on-if6 .ensures) (omega (arith, c .before .less-one .ensures)) (rw (c .before .less-one .ensures) (expression-9 _ _ _ _ _ (c .before .before .before .before .before .before .before .before .before .before .before .before .before .before .before .if1 .left) (sym (c .before .before .before .before .before .before .before .before .before .before .before .before .before .before .is-literal .ensures) ∙ c .before .before .before .before .before .before .before .before .before .before .before .before .before .if2 .left) (c .before .before .before .before .before .before .before .before .before .before .before .before .if3 .left) (sym (c .before .before .before .before .before .before .before .before .before .before .before .is-member-access .ensures) ∙ c .before .before .before .before .before .before .before .before .before .before .if4 .left) (rw (c .before .before .before .before .before .before .before .before .before .is-prefix-operator .ensures) at (c .before .before .before .before .before .before .before .before .if5 .left)) (rw (c .before .before .before .before .before .before .before .is-prefix-or-binary-operator .ensures) at (c .before .before .before .before .before .before .if6 .left)) (rw (c .before .before .before .before .before .is-postfix-operator .ensures) at (c .before .before .before .before .if7 .left)) (c .before .before .before .if8 .left) (c .before .before .if9 .taken)))
 
 is-binary-or-assignment-operator-requires : tie.Need-is-binary-or-assignment-operator-requires
 is-binary-or-assignment-operator-requires c κs = search needs
 
-expression-on-if-requires-9 : tie.Need-expression-on-if-requires-9
-expression-on-if-requires-9 c κs = search needs
+expression-on-if-requires-7 : tie.Need-expression-on-if-requires-7
+expression-on-if-requires-7 c κs = search needs
 
-returns-9 : tie.Need-returns-9
-returns-9 c = again (c .expression-on-if9 .ensures) (omega arith) (expression-9 _ _ _ _ _ (c .before .before .before .before .before .before .before .before .before .before .before .before .before .before .if1 .left) (sym (c .before .before .before .before .before .before .before .before .before .before .before .before .before .is-literal .ensures) ∙ c .before .before .before .before .before .before .before .before .before .before .before .before .if2 .left) (c .before .before .before .before .before .before .before .before .before .before .before .if3 .left) (sym (c .before .before .before .before .before .before .before .before .before .before .is-member-access .ensures) ∙ c .before .before .before .before .before .before .before .before .before .if4 .left) (sym (c .before .before .before .before .before .before .before .before .is-prefix .ensures) ∙ c .before .before .before .before .before .before .before .if5 .left) (sym (c .before .before .before .before .before .before .is-postfix-operator .ensures) ∙ c .before .before .before .before .before .if6 .left) (c .before .before .before .before .if7 .left) (c .before .before .before .if8 .left) (sym (c .before .before .is-binary-or-assignment-operator .ensures) ∙ c .before .if9 .taken))
+returns-10 : tie.Need-returns-10
+returns-10 c = again (c .expression-on-if7 .ensures) (omega arith) (expression-10 _ _ _ _ _ (c .before .before .before .before .before .before .before .before .before .before .before .before .before .before .before .before .if1 .left) (sym (c .before .before .before .before .before .before .before .before .before .before .before .before .before .before .before .is-literal .ensures) ∙ c .before .before .before .before .before .before .before .before .before .before .before .before .before .before .if2 .left) (c .before .before .before .before .before .before .before .before .before .before .before .before .before .if3 .left) (sym (c .before .before .before .before .before .before .before .before .before .before .before .before .is-member-access .ensures) ∙ c .before .before .before .before .before .before .before .before .before .before .before .if4 .left) (rw (c .before .before .before .before .before .before .before .before .before .before .is-prefix-operator .ensures) at (c .before .before .before .before .before .before .before .before .before .if5 .left)) (rw (c .before .before .before .before .before .before .before .before .is-prefix-or-binary-operator .ensures) at (c .before .before .before .before .before .before .before .if6 .left)) (rw (c .before .before .before .before .before .before .is-postfix-operator .ensures) at (c .before .before .before .before .before .if7 .left)) (c .before .before .before .before .if8 .left) (c .before .before .before .if9 .left) (sym (c .before .before .is-binary-or-assignment-operator .ensures) ∙ c .before .if10 .taken))
 
 group-test-requires : tie.Need-group-test-requires
 group-test-requires c κs = search needs
@@ -105,20 +106,23 @@ group-test-requires c κs = search needs
 expression-inside-if-requires : tie.Need-expression-inside-if-requires
 expression-inside-if-requires c κs = search needs
 
-returns-10 : tie.Need-returns-10
-returns-10 c = again (c .expression-inside-if .ensures) (omega arith) (rw (c .before .group-test .ensures) (expression-10 _ _ _ _ _ (c .before .before .before .before .before .before .before .before .before .before .before .before .before .before .before .before .if1 .left) (sym (c .before .before .before .before .before .before .before .before .before .before .before .before .before .before .before .is-literal .ensures) ∙ c .before .before .before .before .before .before .before .before .before .before .before .before .before .before .if2 .left) (c .before .before .before .before .before .before .before .before .before .before .before .before .before .if3 .left) (sym (c .before .before .before .before .before .before .before .before .before .before .before .before .is-member-access .ensures) ∙ c .before .before .before .before .before .before .before .before .before .before .before .if4 .left) (sym (c .before .before .before .before .before .before .before .before .before .before .is-prefix .ensures) ∙ c .before .before .before .before .before .before .before .before .before .if5 .left) (sym (c .before .before .before .before .before .before .before .before .is-postfix-operator .ensures) ∙ c .before .before .before .before .before .before .before .if6 .left) (c .before .before .before .before .before .before .if7 .left) (c .before .before .before .before .before .if8 .left) (sym (c .before .before .before .before .is-binary-or-assignment-operator .ensures) ∙ c .before .before .before .if9 .left) (c .before .before .if10 .taken)))
+returns-11 : tie.Need-returns-11
+returns-11 c = again (c .expression-inside-if .ensures) (omega arith) (rw (c .before .group-test .ensures) (expression-11 _ _ _ _ _ (c .before .before .before .before .before .before .before .before .before .before .before .before .before .before .before .before .before .before .if1 .left) (sym (c .before .before .before .before .before .before .before .before .before .before .before .before .before .before .before .before .before .is-literal .ensures) ∙ c .before .before .before .before .before .before .before .before .before .before .before .before .before .before .before .before .if2 .left) (c .before .before .before .before .before .before .before .before .before .before .before .before .before .before .before .if3 .left) (sym (c .before .before .before .before .before .before .before .before .before .before .before .before .before .before .is-member-access .ensures) ∙ c .before .before .before .before .before .before .before .before .before .before .before .before .before .if4 .left) (rw (c .before .before .before .before .before .before .before .before .before .before .before .before .is-prefix-operator .ensures) at (c .before .before .before .before .before .before .before .before .before .before .before .if5 .left)) (rw (c .before .before .before .before .before .before .before .before .before .before .is-prefix-or-binary-operator .ensures) at (c .before .before .before .before .before .before .before .before .before .if6 .left)) (rw (c .before .before .before .before .before .before .before .before .is-postfix-operator .ensures) at (c .before .before .before .before .before .before .before .if7 .left)) (c .before .before .before .before .before .before .if8 .left) (c .before .before .before .before .before .if9 .left) (sym (c .before .before .before .before .is-binary-or-assignment-operator .ensures) ∙ c .before .before .before .if10 .left) (c .before .before .if11 .taken)))
 
 expression-inside-if-requires-2 : tie.Need-expression-inside-if-requires-2
 expression-inside-if-requires-2 c κs = search needs
 
-returns-11 : tie.Need-returns-11
-returns-11 c = again (c .expression-inside-if2 .ensures) (omega arith) (expression-11 _ _ _ _ _ (c .before .before .before .before .before .before .before .before .before .before .before .before .before .before .before .before .if1 .left) (sym (c .before .before .before .before .before .before .before .before .before .before .before .before .before .before .before .is-literal .ensures) ∙ c .before .before .before .before .before .before .before .before .before .before .before .before .before .before .if2 .left) (c .before .before .before .before .before .before .before .before .before .before .before .before .before .if3 .left) (sym (c .before .before .before .before .before .before .before .before .before .before .before .before .is-member-access .ensures) ∙ c .before .before .before .before .before .before .before .before .before .before .before .if4 .left) (sym (c .before .before .before .before .before .before .before .before .before .before .is-prefix .ensures) ∙ c .before .before .before .before .before .before .before .before .before .if5 .left) (sym (c .before .before .before .before .before .before .before .before .is-postfix-operator .ensures) ∙ c .before .before .before .before .before .before .before .if6 .left) (c .before .before .before .before .before .before .if7 .left) (c .before .before .before .before .before .if8 .left) (sym (c .before .before .before .before .is-binary-or-assignment-operator .ensures) ∙ c .before .before .before .if9 .left) (c .before .before .if10 .left) (c .before .if11 .taken))
+returns-12 : tie.Need-returns-12
+returns-12 c = again (c .expression-inside-if2 .ensures) (omega arith) (expression-12 _ _ _ _ _ (c .before .before .before .before .before .before .before .before .before .before .before .before .before .before .before .before .before .before .if1 .left) (sym (c .before .before .before .before .before .before .before .before .before .before .before .before .before .before .before .before .before .is-literal .ensures) ∙ c .before .before .before .before .before .before .before .before .before .before .before .before .before .before .before .before .if2 .left) (c .before .before .before .before .before .before .before .before .before .before .before .before .before .before .before .if3 .left) (sym (c .before .before .before .before .before .before .before .before .before .before .before .before .before .before .is-member-access .ensures) ∙ c .before .before .before .before .before .before .before .before .before .before .before .before .before .if4 .left) (rw (c .before .before .before .before .before .before .before .before .before .before .before .before .is-prefix-operator .ensures) at (c .before .before .before .before .before .before .before .before .before .before .before .if5 .left)) (rw (c .before .before .before .before .before .before .before .before .before .before .is-prefix-or-binary-operator .ensures) at (c .before .before .before .before .before .before .before .before .before .if6 .left)) (rw (c .before .before .before .before .before .before .before .before .is-postfix-operator .ensures) at (c .before .before .before .before .before .before .before .if7 .left)) (c .before .before .before .before .before .before .if8 .left) (c .before .before .before .before .before .if9 .left) (sym (c .before .before .before .before .is-binary-or-assignment-operator .ensures) ∙ c .before .before .before .if10 .left) (c .before .before .if11 .left) (c .before .if12 .taken))
 
 expression-inside-if-requires-3 : tie.Need-expression-inside-if-requires-3
 expression-inside-if-requires-3 c κs = search needs
 
-returns-12 : tie.Need-returns-12
-returns-12 c = again (c .expression-inside-if3 .ensures) (omega arith) (expression-12 _ _ _ _ _ (c .before .before .before .before .before .before .before .before .before .before .before .before .before .before .before .before .if1 .left) (sym (c .before .before .before .before .before .before .before .before .before .before .before .before .before .before .before .is-literal .ensures) ∙ c .before .before .before .before .before .before .before .before .before .before .before .before .before .before .if2 .left) (c .before .before .before .before .before .before .before .before .before .before .before .before .before .if3 .left) (sym (c .before .before .before .before .before .before .before .before .before .before .before .before .is-member-access .ensures) ∙ c .before .before .before .before .before .before .before .before .before .before .before .if4 .left) (sym (c .before .before .before .before .before .before .before .before .before .before .is-prefix .ensures) ∙ c .before .before .before .before .before .before .before .before .before .if5 .left) (sym (c .before .before .before .before .before .before .before .before .is-postfix-operator .ensures) ∙ c .before .before .before .before .before .before .before .if6 .left) (c .before .before .before .before .before .before .if7 .left) (c .before .before .before .before .before .if8 .left) (sym (c .before .before .before .before .is-binary-or-assignment-operator .ensures) ∙ c .before .before .before .if9 .left) (c .before .before .if10 .left) (c .before .if11 .left))
+returns-13 : tie.Need-returns-13
+returns-13 c = again (c .expression-inside-if3 .ensures) (omega arith) (expression-13 _ _ _ _ _ (c .before .before .before .before .before .before .before .before .before .before .before .before .before .before .before .before .before .before .before .if1 .left) (sym (c .before .before .before .before .before .before .before .before .before .before .before .before .before .before .before .before .before .before .is-literal .ensures) ∙ c .before .before .before .before .before .before .before .before .before .before .before .before .before .before .before .before .before .if2 .left) (c .before .before .before .before .before .before .before .before .before .before .before .before .before .before .before .before .if3 .left) (sym (c .before .before .before .before .before .before .before .before .before .before .before .before .before .before .before .is-member-access .ensures) ∙ c .before .before .before .before .before .before .before .before .before .before .before .before .before .before .if4 .left) (rw (c .before .before .before .before .before .before .before .before .before .before .before .before .before .is-prefix-operator .ensures) at (c .before .before .before .before .before .before .before .before .before .before .before .before .if5 .left)) (rw (c .before .before .before .before .before .before .before .before .before .before .before .is-prefix-or-binary-operator .ensures) at (c .before .before .before .before .before .before .before .before .before .before .if6 .left)) (rw (c .before .before .before .before .before .before .before .before .before .is-postfix-operator .ensures) at (c .before .before .before .before .before .before .before .before .if7 .left)) (c .before .before .before .before .before .before .before .if8 .left) (c .before .before .before .before .before .before .if9 .left) (sym (c .before .before .before .before .before .is-binary-or-assignment-operator .ensures) ∙ c .before .before .before .before .if10 .left) (c .before .before .before .if11 .left) (c .before .before .if12 .left) (c .before .if13 .taken))
+
+returns-14 : tie.Need-returns-14
+returns-14 c = record { is = expression-14 _ _ _ _ _ (c .before .before .before .before .before .before .before .before .before .before .before .before .before .before .before .before .before .before .if1 .left) (sym (c .before .before .before .before .before .before .before .before .before .before .before .before .before .before .before .before .before .is-literal .ensures) ∙ c .before .before .before .before .before .before .before .before .before .before .before .before .before .before .before .before .if2 .left) (c .before .before .before .before .before .before .before .before .before .before .before .before .before .before .before .if3 .left) (sym (c .before .before .before .before .before .before .before .before .before .before .before .before .before .before .is-member-access .ensures) ∙ c .before .before .before .before .before .before .before .before .before .before .before .before .before .if4 .left) (rw (c .before .before .before .before .before .before .before .before .before .before .before .before .is-prefix-operator .ensures) at (c .before .before .before .before .before .before .before .before .before .before .before .if5 .left)) (rw (c .before .before .before .before .before .before .before .before .before .before .is-prefix-or-binary-operator .ensures) at (c .before .before .before .before .before .before .before .before .before .if6 .left)) (rw (c .before .before .before .before .before .before .before .before .is-postfix-operator .ensures) at (c .before .before .before .before .before .before .before .if7 .left)) (c .before .before .before .before .before .before .if8 .left) (c .before .before .before .before .before .if9 .left) (sym (c .before .before .before .before .is-binary-or-assignment-operator .ensures) ∙ c .before .before .before .if10 .left) (c .before .before .if11 .left) (c .before .if12 .left) (c .if13 .left); waits = tt }
 
 pub expression-node-spec : {M : Type 1} → statement M
 expression-node-spec =
@@ -135,25 +139,26 @@ expression-node-spec =
     is-access-of-requires
     expression-on-if-requires-4
     returns-4
-    is-prefix-requires
-    expression-on-if-requires-5
+    is-prefix-operator-requires
     returns-5
-    is-postfix-operator-requires
-    expression-on-if-requires-6
+    is-prefix-or-binary-operator-requires
     returns-6
-    add-expression-on-if
-    expression-on-if-requires-7
+    is-postfix-operator-requires
     returns-7
-    less-one-requires
-    expression-on-if-requires-8
+    add-expression-on-if
+    expression-on-if-requires-5
     returns-8
-    is-binary-or-assignment-operator-requires
-    expression-on-if-requires-9
+    less-one-requires
+    expression-on-if-requires-6
     returns-9
+    is-binary-or-assignment-operator-requires
+    expression-on-if-requires-7
+    returns-10
     group-test-requires
     expression-inside-if-requires
-    returns-10
-    expression-inside-if-requires-2
     returns-11
+    expression-inside-if-requires-2
+    returns-12
     expression-inside-if-requires-3
-    returns-12)
+    returns-13
+    returns-14)

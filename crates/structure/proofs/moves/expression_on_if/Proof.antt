@@ -1,10 +1,10 @@
 -- `expression_on_if` meets its contract. Assumes nothing.
 use native.Mathlib.Omega.{arith}
+use Rattle.type_nodes.specs.Moves.{on-if}
 use Rattle.structure.proofs.moves.expression_on_if.Statement.{statement}
 use Rattle.structure.proofs.moves.expression_on_if.Tie as tie
 use Rattle.structure.proofs.moves.expression_on_if.Reads as reads
 use Rattle.structure.proofs.moves.expression_on_if.Lts as lts
-use Rattle.type_nodes.specs.Moves.{on-if}
 
 returns : tie.Need-returns
 unfolding on-if

@@ -1,9 +1,9 @@
 -- `type_inside_if` meets its contract. Assumes nothing.
+use Rattle.type_nodes.specs.Moves.{inside-if}
 use Rattle.structure.proofs.moves.type_inside_if.Statement.{statement}
 use Rattle.structure.proofs.moves.type_inside_if.Tie as tie
 use Rattle.structure.proofs.moves.type_inside_if.Reads as reads
 use Rattle.structure.proofs.moves.type_inside_if.Lts as lts
-use Rattle.type_nodes.specs.Moves.{inside-if}
 
 returns : tie.Need-returns
 unfolding inside-if

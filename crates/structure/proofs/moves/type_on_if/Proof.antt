@@ -1,9 +1,9 @@
 -- `type_on_if` meets its contract. Assumes nothing.
+use Rattle.type_nodes.specs.Moves.{on-if}
 use Rattle.structure.proofs.moves.type_on_if.Statement.{statement}
 use Rattle.structure.proofs.moves.type_on_if.Tie as tie
 use Rattle.structure.proofs.moves.type_on_if.Reads as reads
 use Rattle.structure.proofs.moves.type_on_if.Lts as lts
-use Rattle.type_nodes.specs.Moves.{on-if}
 
 returns : tie.Need-returns
 unfolding on-if

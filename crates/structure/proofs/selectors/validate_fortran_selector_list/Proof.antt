@@ -6,7 +6,8 @@ use borrow.Author.Needs.{needs}
 use borrow.Author.Tests.{not-true, not-false}
 use denote.Enum.Declared.{tagOf}
 use Rattle.structure.proofs.moves.Verdict.{the-type}
-use Rattle.structure.specs.Structure.{checked, validate-fortran-selector, validate-fortran-selector-list}
+use Rattle.structure.specs.Checks.{checked}
+use Rattle.structure.specs.Selectors.{validate-fortran-selector, validate-fortran-selector-list}
 use Rattle.structure.specs.Laws.Limits.{not-holds}
 use Rattle.structure.specs.Laws.Walks.{walk-start, walk-formed, walk-stops, walk-holds, walk-further, walk-fits}
 use Rattle.structure.specs.Laws.Inside.{no-list, list-of, both-failed, selectors-start}

@@ -2,7 +2,7 @@
 use mathlib.Core.Path.{_≡_, refl}
 use native.Mathlib.Omega.{arith}
 use borrow.Author.Needs.{needs}
-use Rattle.structure.specs.Structure.{validate-fortran-selector-value}
+use Rattle.structure.specs.Selectors.{validate-fortran-selector-value}
 use Rattle.structure.specs.Laws.Inside.{value-of, either-held, either-else}
 use borrow.Author.Needs.{needs}
 use Rattle.structure.proofs.selectors.validate_fortran_selector_value.Statement.{statement}

@@ -2,7 +2,7 @@
 use mathlib.Core.Path.{_≡_}
 use borrow.Author.Needs.{needs}
 use borrow.Author.Tests.{eq-eqb, ne-eqb}
-use Rattle.structure.specs.Structure.{validate-structured-syntax}
+use Rattle.structure.specs.Syntax.{validate-structured-syntax}
 use Rattle.structure.specs.Laws.Inside.{by-name}
 use borrow.Author.Needs.{needs}
 use Rattle.structure.proofs.syntax.validate_structured_syntax.Statement.{statement}
@@ -10,7 +10,7 @@ use Rattle.structure.proofs.syntax.validate_structured_syntax.Tie as ti
 use Rattle.structure.proofs.syntax.validate_structured_syntax.Reads as reads
 use Rattle.structure.proofs.syntax.validate_structured_syntax.Lts as lts
 use Rattle.structure.proofs.checks.validate_c_family_type.Reads as validate-c-family-type-reads
-use Rattle.structure.proofs.fortran.validate_fortran_type.Reads as validate-fortran-type-reads
+use Rattle.structure.proofs.fortran_types.validate_fortran_type.Reads as validate-fortran-type-reads
 
 validate-fortran-type-requires : tie.Need-validate-fortran-type-requires
 validate-fortran-type-requires c κs = c .before .before .before .before .pre

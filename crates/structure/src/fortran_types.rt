@@ -21,30 +21,29 @@ use type_nodes::sets::is_word_after_double;
 use type_nodes::shapes::PARENTHESIZED;
 ghost use mathlib.Core.Path.{_≡_};
 ghost use Rattle.type_nodes.specs.Stands.{WordedNodes, Of};
-ghost use Rattle.structure.specs.FortranTypes.{fortran-node, fortran-head, validate-fortran-type-head};
-ghost use Rattle.structure.specs.Represented.{fortran-move-of, fortran-state-of};
-ghost use Rattle.structure.specs.Structure.{validate-fortran-type};
+ghost use Rattle.structure.specs.FortranTypes.{fortran-node, fortran-head, validate-fortran-type-head, validate-fortran-type};
+ghost use Rattle.structure.specs.RepresentedMoves.{fortran-move-of, fortran-state-of};
 ghost use Rattle.structure.specs.VerdictSays.{Answers};
 
 // `last`: one node follows, an integer.
 pub fn fortran_node(shape: u8, last: bool, st: FortranLoop) -> FortranMove
     ensures { λ r. ⌜ fortran-move-of r ≡ fortran-node shape last (fortran-state-of st) ⌝ }
 {
-    let word = st.word;
-    let selector = st.selector;
+    let saw_word = st.saw_word;
+    let saw_selector = st.saw_selector;
     if shape == IDENTIFIER {
         return FortranMove::On(FortranLoop {
-            word: true,
-            selector,
+            saw_word: true,
+            saw_selector,
         });
     }
-    if (shape == PARENTHESIZED) & word & !selector {
+    if (shape == PARENTHESIZED) & saw_word & !saw_selector {
         return FortranMove::Inside(FortranLoop {
-            word,
-            selector: true,
+            saw_word,
+            saw_selector: true,
         });
     }
-    if (shape == STAR) & word & last {
+    if (shape == STAR) & saw_word & last {
         return FortranMove::Stop(true);
     }
     FortranMove::Stop(false)
@@ -111,8 +110,8 @@ pub fn validate_fortran_type(
         return Verdict::Fails(left);
     }
     let mut st = FortranLoop {
-        word: false,
-        selector: false,
+        saw_word: false,
+        saw_selector: false,
     };
     let mut at = from;
     while at < to {
@@ -144,5 +143,5 @@ pub fn validate_fortran_type(
         }
         at = end;
     }
-    plain(st.word, left)
+    plain(st.saw_word, left)
 }

@@ -3,16 +3,16 @@ use mathlib.Core.Path.{_≡_, sym, ap, _∙_}
 use mathlib.Core.Bool.{Bool, _&&_, not}
 use native.Mathlib.Omega.{arith}
 use borrow.Author.Needs.{needs}
-use Rattle.structure.specs.Laws.Tables.{declarator-1, declarator-2, declarator-3, declarator-4, declarator-5, declarator-6, declarator-7}
+use Rattle.structure.specs.Laws.Tables.{declarator-1, declarator-2, declarator-3, declarator-4, declarator-5, declarator-6, declarator-7, declarator-8}
 use borrow.Author.Needs.{needs}
-use Rattle.structure.proofs.tables.abstract_declarator_node.Statement.{statement}
-use Rattle.structure.proofs.tables.abstract_declarator_node.Tie as tie
-use Rattle.structure.proofs.tables.abstract_declarator_node.Reads as reads
-use Rattle.structure.proofs.tables.abstract_declarator_node.Lts as lts
+use Rattle.structure.proofs.declarators.abstract_declarator_node.Statement.{statement}
+use Rattle.structure.proofs.declarators.abstract_declarator_node.Tie as tie
+use Rattle.structure.proofs.declarators.abstract_declarator_node.Reads as reads
+use Rattle.structure.proofs.declarators.abstract_declarator_node.Lts as lts
+use Rattle.structure.proofs.declarators.is_part_of_name.Reads as is-part-of-name-reads
+use Rattle.structure.proofs.declarators.scope_has_valid_neighbors.Reads as scope-has-valid-neighbors-reads
 use Rattle.structure.proofs.moves.declarator_inside_if.Reads as declarator-inside-if-reads
 use Rattle.structure.proofs.moves.declarator_on_if.Reads as declarator-on-if-reads
-use Rattle.structure.proofs.tables.is_part_of_name.Reads as is-part-of-name-reads
-use Rattle.structure.proofs.tables.scope_has_valid_neighbors.Reads as scope-has-valid-neighbors-reads
 use Rattle.type_nodes.proofs.sets.is_c_family_declarator_qualifier.Reads as is-c-family-declarator-qualifier-reads
 use Rattle.type_nodes.proofs.sets.is_reference_operator.Reads as is-reference-operator-reads
 
@@ -20,7 +20,7 @@ declarator-on-if-requires : tie.Need-declarator-on-if-requires
 declarator-on-if-requires c κs = search needs
 
 returns : tie.Need-returns
-returns c = c .declarator-on-if .ensures ∙ (declarator-1 _ _ _ _ _ _ _ (c .before .if1 .taken))
+returns c = c .declarator-on-if .ensures ∙ (declarator-1 _ _ _ _ _ _ _ (c .before .before .if1 .taken))
 
 is-reference-operator-requires : tie.Need-is-reference-operator-requires
 is-reference-operator-requires c κs = search needs
@@ -29,7 +29,7 @@ declarator-on-if-requires-2 : tie.Need-declarator-on-if-requires-2
 declarator-on-if-requires-2 c κs = search needs
 
 returns-2 : tie.Need-returns-2
-returns-2 c = c .declarator-on-if2 .ensures ∙ (declarator-2 _ _ _ _ _ _ _ (c .before .before .before .if1 .left) (sym (c .before .before .is-reference-operator .ensures) ∙ c .before .if2 .taken))
+returns-2 c = c .declarator-on-if2 .ensures ∙ (declarator-2 _ _ _ _ _ _ _ (c .before .before .before .before .if1 .left) (sym (c .before .before .before .is-reference-operator .ensures) ∙ c .before .before .if2 .taken))
 
 is-c-family-declarator-qualifier-requires : tie.Need-is-c-family-declarator-qualifier-requires
 is-c-family-declarator-qualifier-requires c κs = search needs
@@ -68,7 +68,10 @@ declarator-inside-if-requires-3 : tie.Need-declarator-inside-if-requires-3
 declarator-inside-if-requires-3 c κs = search needs
 
 returns-7 : tie.Need-returns-7
-returns-7 c = c .declarator-inside-if3 .ensures ∙ (declarator-7 _ _ _ _ _ _ _ (c .before .before .before .before .before .before .before .if1 .left) (sym (c .before .before .before .before .before .before .is-reference-operator .ensures) ∙ c .before .before .before .before .before .if2 .left) (c .before .before .before .before .if3 .left) (c .before .before .before .if4 .left) (c .before .before .if5 .left) (c .before .if6 .left))
+returns-7 c = c .declarator-inside-if3 .ensures ∙ (declarator-7 _ _ _ _ _ _ _ (c .before .before .before .before .before .before .before .before .if1 .left) (sym (c .before .before .before .before .before .before .before .is-reference-operator .ensures) ∙ c .before .before .before .before .before .before .if2 .left) (c .before .before .before .before .before .if3 .left) (c .before .before .before .before .if4 .left) (c .before .before .before .if5 .left) (c .before .before .if6 .left) (c .before .if7 .taken))
+
+returns-8 : tie.Need-returns-8
+returns-8 c = declarator-8 _ _ _ _ _ _ _ (c .before .before .before .before .before .before .before .if1 .left) (sym (c .before .before .before .before .before .before .is-reference-operator .ensures) ∙ c .before .before .before .before .before .if2 .left) (c .before .before .before .before .if3 .left) (c .before .before .before .if4 .left) (c .before .before .if5 .left) (c .before .if6 .left) (c .if7 .left)
 
 pub abstract-declarator-node-spec : {M : Type 1} → statement M
 abstract-declarator-node-spec =
@@ -91,4 +94,5 @@ abstract-declarator-node-spec =
     declarator-inside-if-requires-2
     returns-6
     declarator-inside-if-requires-3
-    returns-7)
+    returns-7
+    returns-8)

@@ -28,7 +28,7 @@ use type_nodes::shapes::PARENTHESIZED;
 use type_nodes::shapes::TEMPLATE_ARGUMENTS;
 ghost use mathlib.Core.Path.{_≡_};
 ghost use Rattle.structure.specs.Declarators.{scope-has-valid-neighbors, is-part-of-name, abstract-declarator-node, c-family-group, c-family-node};
-ghost use Rattle.structure.specs.Represented.{declarator-move-of, declarator-state-of, type-move-of, type-state-of};
+ghost use Rattle.structure.specs.RepresentedMoves.{declarator-move-of, declarator-state-of, type-move-of, type-state-of};
 
 fn scope_has_valid_neighbors(left: u8, right: u8) -> bool
     ensures { λ r. ⌜ r ≡ scope-has-valid-neighbors left right ⌝ }
@@ -53,71 +53,66 @@ pub fn abstract_declarator_node(
 ) -> DeclaratorMove
     ensures { λ r. ⌜ declarator-move-of r ≡ abstract-declarator-node language left shape word right (declarator-state-of st) ⌝ }
 {
-    let operator = st.operator;
-    let reference = st.reference;
+    let operated = DeclaratorLoop {
+        saw_operator: true,
+        saw_reference: st.saw_reference,
+    };
     if shape == STAR {
-        return declarator_on_if(!reference, true, reference);
+        return declarator_on_if(!st.saw_reference, operated);
     }
     if is_reference_operator(shape) {
-        return declarator_on_if((language == CPP) & !reference, true, true);
+        let referring = DeclaratorLoop {
+            saw_operator: true,
+            saw_reference: true,
+        };
+        return declarator_on_if((language == CPP) & !st.saw_reference, referring);
     }
     if shape == IDENTIFIER {
         let known = is_c_family_declarator_qualifier(word);
-        return declarator_on_if(known | is_part_of_name(left, right), operator, reference);
+        return declarator_on_if(known | is_part_of_name(left, right), st);
     }
     if shape == SCOPE {
         let good = scope_has_valid_neighbors(left, right);
-        return declarator_on_if((language == CPP) & good, operator, reference);
+        return declarator_on_if((language == CPP) & good, st);
     }
     if shape == TEMPLATE_ARGUMENTS {
-        return declarator_inside_if(
-            (language == CPP) & (left == IDENTIFIER),
-            Inner::Arguments,
-            operator,
-            reference,
-        );
+        let list = (language == CPP) & (left == IDENTIFIER);
+        return declarator_inside_if(list, Inner::Arguments, st);
     }
     if shape == PARENTHESIZED {
-        return declarator_inside_if(true, Inner::Declarator, true, reference);
+        return declarator_inside_if(true, Inner::Declarator, operated);
     }
-    declarator_inside_if(shape == BRACKETED, Inner::ArrayBound, true, reference)
+    if shape == BRACKETED {
+        return declarator_inside_if(true, Inner::ArrayBound, operated);
+    }
+    DeclaratorMove::Stop(false)
 }
 
 // Parentheses start the declarator, but not those after `_BitInt`.
 fn c_family_group(language: u8, before: u8, st: TypeLoop) -> TypeMove
     ensures { λ r. ⌜ type-move-of r ≡ c-family-group language before (type-state-of st) ⌝ }
 {
-    let word = st.word;
-    let started = st.started;
-    let reference = st.reference;
+    let begun = TypeLoop {
+        saw_type_word: st.saw_type_word,
+        declarator_started: true,
+        saw_reference: st.saw_reference,
+    };
     if before == DECLTYPE {
-        return type_inside_if(language == CPP, Inner::Expression, word, true, reference);
+        return type_inside_if(language == CPP, Inner::Expression, begun);
     }
     if is_typeof_word(before) {
-        return type_inside_if(true, Inner::TypeOrExpression, word, true, reference);
+        return type_inside_if(true, Inner::TypeOrExpression, begun);
     }
     if before == ATOMIC {
-        return type_inside_if(language == C, Inner::TypeName, word, true, reference);
+        return type_inside_if(language == C, Inner::TypeName, begun);
     }
     if before == BIT_INT {
-        return type_inside_if(language == C, Inner::Expression, word, started, reference);
+        return type_inside_if(language == C, Inner::Expression, st);
     }
-    if (before == NOEXCEPT) & started {
-        return type_inside_if(
-            language == CPP,
-            Inner::OptionalExpression,
-            word,
-            true,
-            reference,
-        );
+    if (before == NOEXCEPT) & st.declarator_started {
+        return type_inside_if(language == CPP, Inner::OptionalExpression, begun);
     }
-    type_inside_if(
-        true,
-        Inner::DeclaratorOrParameters(word),
-        word,
-        true,
-        reference,
-    )
+    type_inside_if(true, Inner::DeclaratorOrParameters(st.saw_type_word), begun)
 }
 
 pub fn c_family_node(
@@ -131,40 +126,45 @@ pub fn c_family_node(
 ) -> TypeMove
     ensures { λ r. ⌜ type-move-of r ≡ c-family-node language left before shape word right (type-state-of st) ⌝ }
 {
-    let seen = st.word;
-    let started = st.started;
-    let reference = st.reference;
+    let named = TypeLoop {
+        saw_type_word: true,
+        declarator_started: st.declarator_started,
+        saw_reference: st.saw_reference,
+    };
+    let begun = TypeLoop {
+        saw_type_word: st.saw_type_word,
+        declarator_started: true,
+        saw_reference: st.saw_reference,
+    };
     if shape == IDENTIFIER {
         let known = is_c_family_declarator_qualifier(word);
-        return type_on_if(!started | known, true, started, reference);
+        return type_on_if(!st.declarator_started | known, named);
     }
     if shape == SCOPE {
         let good = scope_has_valid_neighbors(left, right);
-        return type_on_if((language == CPP) & good, seen, started, reference);
+        return type_on_if((language == CPP) & good, st);
     }
     if shape == TEMPLATE_ARGUMENTS {
-        return type_inside_if(
-            (language == CPP) & (left == IDENTIFIER),
-            Inner::Arguments,
-            true,
-            started,
-            reference,
-        );
+        let list = (language == CPP) & (left == IDENTIFIER);
+        return type_inside_if(list, Inner::Arguments, named);
     }
     if shape == STAR {
-        return type_on_if(seen & !reference, seen, true, reference);
+        return type_on_if(st.saw_type_word & !st.saw_reference, begun);
     }
     if is_reference_operator(shape) {
-        return type_on_if((language == CPP) & seen & !reference, seen, true, true);
+        let referring = TypeLoop {
+            saw_type_word: st.saw_type_word,
+            declarator_started: true,
+            saw_reference: true,
+        };
+        let first = (language == CPP) & st.saw_type_word & !st.saw_reference;
+        return type_on_if(first, referring);
     }
     if shape == PARENTHESIZED {
         return c_family_group(language, before, st);
     }
-    type_inside_if(
-        (shape == BRACKETED) & seen,
-        Inner::ArrayBound,
-        seen,
-        true,
-        reference,
-    )
+    if shape == BRACKETED {
+        return type_inside_if(st.saw_type_word, Inner::ArrayBound, begun);
+    }
+    TypeMove::Stop(false)
 }

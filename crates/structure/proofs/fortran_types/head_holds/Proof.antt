@@ -5,10 +5,10 @@ use borrow.Author.Needs.{needs}
 use borrow.Author.Tests.{eq-eqb, ne-eqb}
 use Rattle.structure.specs.FortranTypes.{fortran-head}
 use borrow.Author.Needs.{needs}
-use Rattle.structure.proofs.fortran.head_holds.Statement.{statement}
-use Rattle.structure.proofs.fortran.head_holds.Tie as tie
-use Rattle.structure.proofs.fortran.head_holds.Reads as reads
-use Rattle.structure.proofs.fortran.head_holds.Lts as lts
+use Rattle.structure.proofs.fortran_types.head_holds.Statement.{statement}
+use Rattle.structure.proofs.fortran_types.head_holds.Tie as tie
+use Rattle.structure.proofs.fortran_types.head_holds.Reads as reads
+use Rattle.structure.proofs.fortran_types.head_holds.Lts as lts
 use Rattle.type_nodes.proofs.sets.is_derived_type_word.Reads as is-derived-type-word-reads
 use Rattle.type_nodes.proofs.sets.is_word_after_double.Reads as is-word-after-double-reads
 

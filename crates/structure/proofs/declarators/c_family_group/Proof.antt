@@ -5,10 +5,10 @@ use native.Mathlib.Omega.{arith}
 use borrow.Author.Needs.{needs}
 use Rattle.structure.specs.Laws.Tables.{group-1, group-2, group-3, group-4, group-5, group-6}
 use borrow.Author.Needs.{needs}
-use Rattle.structure.proofs.tables.c_family_group.Statement.{statement}
-use Rattle.structure.proofs.tables.c_family_group.Tie as tie
-use Rattle.structure.proofs.tables.c_family_group.Reads as reads
-use Rattle.structure.proofs.tables.c_family_group.Lts as lts
+use Rattle.structure.proofs.declarators.c_family_group.Statement.{statement}
+use Rattle.structure.proofs.declarators.c_family_group.Tie as tie
+use Rattle.structure.proofs.declarators.c_family_group.Reads as reads
+use Rattle.structure.proofs.declarators.c_family_group.Lts as lts
 use Rattle.structure.proofs.moves.type_inside_if.Reads as type-inside-if-reads
 use Rattle.type_nodes.proofs.sets.is_typeof_word.Reads as is-typeof-word-reads
 
@@ -43,13 +43,13 @@ type-inside-if-requires-5 : tie.Need-type-inside-if-requires-5
 type-inside-if-requires-5 c κs = search needs
 
 returns-5 : tie.Need-returns-5
-returns-5 c = c .type-inside-if5 .ensures ∙ (group-5 _ _ _ _ _ (c .before .before .before .before .before .before .if1 .left) (sym (c .before .before .before .before .before .is-typeof-word .ensures) ∙ c .before .before .before .before .if2 .left) (c .before .before .before .if3 .left) (c .before .before .if4 .left) (c .before .if5 .taken))
+returns-5 c = c .type-inside-if5 .ensures ∙ (group-5 _ _ _ _ _ (c .before .before .before .before .before .before .before .if1 .left) (sym (c .before .before .before .before .before .before .is-typeof-word .ensures) ∙ c .before .before .before .before .before .if2 .left) (c .before .before .before .before .if3 .left) (c .before .before .before .if4 .left) (c .before .if5 .taken))
 
 type-inside-if-requires-6 : tie.Need-type-inside-if-requires-6
 type-inside-if-requires-6 c κs = search needs
 
 returns-6 : tie.Need-returns-6
-returns-6 c = c .type-inside-if6 .ensures ∙ (group-6 _ _ _ _ _ (c .before .before .before .before .before .before .if1 .left) (sym (c .before .before .before .before .before .is-typeof-word .ensures) ∙ c .before .before .before .before .if2 .left) (c .before .before .before .if3 .left) (c .before .before .if4 .left) (c .before .if5 .left))
+returns-6 c = c .type-inside-if6 .ensures ∙ (group-6 _ _ _ _ _ (c .before .before .before .before .before .before .before .if1 .left) (sym (c .before .before .before .before .before .before .is-typeof-word .ensures) ∙ c .before .before .before .before .before .if2 .left) (c .before .before .before .before .if3 .left) (c .before .before .before .if4 .left) (c .before .if5 .left))
 
 pub c-family-group-spec : {M : Type 1} → statement M
 c-family-group-spec =

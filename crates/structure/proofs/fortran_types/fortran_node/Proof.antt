@@ -4,10 +4,10 @@ use mathlib.Core.Bool.{Bool, _&&_, not}
 use native.Mathlib.Omega.{arith}
 use borrow.Author.Needs.{needs}
 use Rattle.structure.specs.Laws.Tables.{fortran-1, fortran-2, fortran-3, fortran-4}
-use Rattle.structure.proofs.fortran.fortran_node.Statement.{statement}
-use Rattle.structure.proofs.fortran.fortran_node.Tie as tie
-use Rattle.structure.proofs.fortran.fortran_node.Reads as reads
-use Rattle.structure.proofs.fortran.fortran_node.Lts as lts
+use Rattle.structure.proofs.fortran_types.fortran_node.Statement.{statement}
+use Rattle.structure.proofs.fortran_types.fortran_node.Tie as tie
+use Rattle.structure.proofs.fortran_types.fortran_node.Reads as reads
+use Rattle.structure.proofs.fortran_types.fortran_node.Lts as lts
 
 returns : tie.Need-returns
 returns c = (fortran-1 _ _ _ _ (c .if1 .taken))

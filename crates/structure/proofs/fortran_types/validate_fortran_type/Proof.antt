@@ -11,14 +11,14 @@ use Rattle.structure.specs.Laws.Limits.{not-holds}
 use Rattle.structure.specs.Laws.Walks.{walk-formed, walk-further, walk-fits, walk-below, walk-after}
 use Rattle.structure.specs.Laws.Loops.{entry-spent, head-fails, head-holds, run-start, run-end, run-stop, run-on, run-stops, run-inside}
 use Rattle.structure.specs.Laws.Inside.{by-name}
-use Rattle.structure.specs.Structure.{test}
+use Rattle.structure.specs.Checks.{test}
 use Rattle.structure.specs.Laws.Checks.{InFortran, fortran-entry, fortran-moved}
-use Rattle.structure.proofs.fortran.validate_fortran_type.Statement.{statement}
-use Rattle.structure.proofs.fortran.validate_fortran_type.Tie as tie
-use Rattle.structure.proofs.fortran.validate_fortran_type.Reads as reads
-use Rattle.structure.proofs.fortran.validate_fortran_type.Lts as lts
-use Rattle.structure.proofs.fortran.fortran_node.Reads as fortran-node-reads
-use Rattle.structure.proofs.fortran.validate_fortran_type_head.Reads as validate-fortran-type-head-reads
+use Rattle.structure.proofs.fortran_types.validate_fortran_type.Statement.{statement}
+use Rattle.structure.proofs.fortran_types.validate_fortran_type.Tie as tie
+use Rattle.structure.proofs.fortran_types.validate_fortran_type.Reads as reads
+use Rattle.structure.proofs.fortran_types.validate_fortran_type.Lts as lts
+use Rattle.structure.proofs.fortran_types.fortran_node.Reads as fortran-node-reads
+use Rattle.structure.proofs.fortran_types.validate_fortran_type_head.Reads as validate-fortran-type-head-reads
 use Rattle.structure.proofs.moves.plain.Reads as plain-reads
 use Rattle.structure.proofs.selectors.validate_fortran_selector_list.Reads as validate-fortran-selector-list-reads
 use Rattle.type_nodes.proofs.nodes.is_single_token.Reads as is-single-token-reads

@@ -31,23 +31,23 @@ test-of I.TypeOrExpression = type-or-expression
 test-of I.ArrayBound = array-bound
 test-of I.Declarator = declarator
 test-of I.Arguments = arguments
-test-of (I.DeclaratorOrParameters word) = declarator-or-parameters word
+test-of (I.DeclaratorOrParameters saw-type-word) = declarator-or-parameters saw-type-word
 
 -- The variables of `validate_c_family_type`.
 abbrev pub type-state-of : TypeLoop → TypeState
-type-state-of st = type-state (st .word) (st .started) (st .reference)
+type-state-of st = type-state (st .«saw_type_word») (st .«declarator_started») (st .«saw_reference»)
 
 -- The variables of `validate_abstract_declarator`.
 abbrev pub declarator-state-of : DeclaratorLoop → DeclaratorState
-declarator-state-of st = declarator-state (st .operator) (st .reference)
+declarator-state-of st = declarator-state (st .«saw_operator») (st .«saw_reference»)
 
 -- The variables of `validate_expression`.
 abbrev pub expression-state-of : ExpressionLoop → ExpressionState
-expression-state-of st = expression-state (st .operand) (st .access) (st .depth)
+expression-state-of st = expression-state (st .«expects_operand») (st .«expects_name_after_access») (st .«conditional_depth»)
 
 -- The variables of `validate_fortran_type`.
 abbrev pub fortran-state-of : FortranLoop → FortranState
-fortran-state-of st = fortran-state (st .word) (st .selector)
+fortran-state-of st = fortran-state (st .«saw_word») (st .«saw_selector»)
 
 -- What `validate_c_family_type` does at a node.
 abbrev pub type-move-of : TypeMove → Move TypeState
@@ -76,8 +76,8 @@ fortran-move-of (F.Inside st) = inside selectors (fortran-state-of st)
 -- At most n `?` wait for their `:`.
 abbrev pub Waits : ℕ → ExpressionMove → Type 0
 Waits n (E.Stop r) = Unit {0}
-Waits n (E.On st) = st .depth ≤ n
-Waits n (E.Inside t st) = st .depth ≤ n
+Waits n (E.On st) = st .«conditional_depth» ≤ n
+Waits n (E.Inside t st) = st .«conditional_depth» ≤ n
 
 -- A move of an expression, and a bound that lets the code count its `?`.
 pub record Moves (n : ℕ) (r : ExpressionMove) (m : Move ExpressionState) : Type 0 where

@@ -1,16 +1,16 @@
 -- `validate_fortran_type_head` meets its contract. Assumes nothing.
 use native.Mathlib.Omega.{arith}
 use borrow.Author.Needs.{needs}
-use Rattle.type_nodes.specs.Shapes.{next}
+use Rattle.type_nodes.specs.Nodes.{next}
 use Rattle.type_nodes.specs.Laws.Siblings.{found-there, found-nothing}
 use Rattle.structure.specs.Laws.Heads.{no-head, after-found, formed-after, head-there}
 use borrow.Author.Needs.{needs}
-use Rattle.structure.proofs.fortran.validate_fortran_type_head.Statement.{statement}
-use Rattle.structure.proofs.fortran.validate_fortran_type_head.Tie as tie
-use Rattle.structure.proofs.fortran.validate_fortran_type_head.Reads as reads
-use Rattle.structure.proofs.fortran.validate_fortran_type_head.Lts as lts
+use Rattle.structure.proofs.fortran_types.validate_fortran_type_head.Statement.{statement}
+use Rattle.structure.proofs.fortran_types.validate_fortran_type_head.Tie as tie
+use Rattle.structure.proofs.fortran_types.validate_fortran_type_head.Reads as reads
+use Rattle.structure.proofs.fortran_types.validate_fortran_type_head.Lts as lts
 use Rattle.rows.proofs.word_numbers.ignoring_case.Reads as ignoring-case-reads
-use Rattle.structure.proofs.fortran.head_holds.Reads as head-holds-reads
+use Rattle.structure.proofs.fortran_types.head_holds.Reads as head-holds-reads
 use Rattle.type_nodes.proofs.nodes.node_at.Reads as node-at-reads
 use Rattle.type_nodes.proofs.nodes.node_identifier.Reads as node-identifier-reads
 use Rattle.type_nodes.proofs.nodes.shape_at.Reads as shape-at-reads
