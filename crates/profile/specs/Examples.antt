@@ -5,9 +5,9 @@ use mathlib.Core.Path.{_≡_, refl}
 use mathlib.Core.List.{List, [], _∷_, map}
 use Rattle.rows.specs.Languages.{C, Cpp, Fortran, C89, C99, C11, C18, C23, Cpp98, Cpp11, Fortran77, Fortran90, Fortran95, Fortran2003, Fortran2008, Fortran2018}
 use Rattle.rows.specs.Kinds.{Identifier, Integer, LeftParen, RightParen, Dot, Star, LogicalAnd, Equal}
-use Rattle.rows.specs.Words.{no-word, other-case, exactly, ignoring-case, long, «_Atomic», «_BitInt», typeof, «typeof_unqual», decltype, type, class}
+use Rattle.rows.specs.Words.{no-word, other-case, long, «_Atomic», «_BitInt», typeof, «typeof_unqual», decltype, type, class}
 use Rattle.rows.specs.Refusals.{featureDetail}
-use Rattle.profile.specs.Profile.{missing-feature, lacking, least, features, uses, has-kind, has-adjacent-identifiers, has-identifier-call, has-identifier-followed-by-star, has-assumed-rank, some-token, some-below, identifier-is, kind-is}
+use Rattle.profile.specs.Profile.{missing-feature}
 use Rattle.profile.specs.declared.profile.Lack.{Lack}
 use Rattle.profile.specs.declared.profile.Lack.the-variants.{Nothing, Lacks}
 
@@ -17,7 +17,7 @@ detail-in Nothing = 0
 detail-in (Lacks f) = featureDetail f
 
 ask : (language standard : ℕ) → (kinds words : List ℕ) → ℕ
-unfolding detail-in missing-feature lacking least features uses has-kind has-adjacent-identifiers has-identifier-call has-identifier-followed-by-star has-assumed-rank some-token some-below identifier-is kind-is exactly ignoring-case
+unfolding detail-in missing-feature
 ask language standard kinds words = detail-in (missing-feature language standard kinds words)
 
 -- A word, `(`, an integer and `)`

@@ -27,14 +27,17 @@ module _ (kinds : List ℕ) where
 
   -- Some place of the row passes: `windows(..).any`.
   unfoldable pub some-token : (ℕ → Bool) → Bool
+  unfolding some-below
   some-token p = some-below (length kinds) p
 
   -- `tokens.iter().any` of `validate_profile_features`.
   unfoldable pub has-kind : (kind : ℕ) → Bool
+  unfolding some-token kind-is
   has-kind kind = some-token (λ at. kind-is at kind)
 
   -- `has_assumed_rank`
   unfoldable pub has-assumed-rank : Bool
+  unfolding some-token kind-is
   has-assumed-rank = some-token (λ at. kind-is at LeftParen && kind-is (at + 1) Dot && kind-is (at + 2) Dot && kind-is (at + 3) RightParen)
 
 -- Whether `identifier_is` ignores case: in every language.
@@ -48,22 +51,27 @@ compared ignoring number = if ignoring then ignoring-case number else exactly nu
 module _ (ignoring : Bool) (kinds words : List ℕ) where
   -- `identifier_is`, with case ignored or not.
   unfoldable pub identifier-is : (at word : ℕ) → Bool
+  unfolding kind-is exactly ignoring-case
   identifier-is at word = kind-is kinds at Identifier && eqb (compared ignoring (getD words at no-word)) word
 
   -- `has_adjacent_identifiers`
   unfoldable pub has-adjacent-identifiers : (first second : ℕ) → Bool
+  unfolding some-token identifier-is
   has-adjacent-identifiers first second = some-token kinds (λ at. identifier-is at first && identifier-is (at + 1) second)
 
   -- `has_identifier_call`
   unfoldable pub has-identifier-call : (name : ℕ) → Bool
+  unfolding some-token identifier-is kind-is
   has-identifier-call name = some-token kinds (λ at. identifier-is at name && kind-is kinds (at + 1) LeftParen)
 
   -- `has_identifier_followed_by_star`
   unfoldable pub has-identifier-followed-by-star : (name : ℕ) → Bool
+  unfolding some-token identifier-is kind-is
   has-identifier-followed-by-star name = some-token kinds (λ at. identifier-is at name && kind-is kinds (at + 1) LeftParen && kind-is kinds (at + 2) Star)
 
   -- The row uses the feature: the tests of `validate_profile_features`, in the order of refusal 40's details.
   unfoldable pub uses : Feature → Bool
+  unfolding has-adjacent-identifiers has-identifier-call has-kind has-identifier-followed-by-star has-assumed-rank
   uses LongLong = has-adjacent-identifiers long long
   uses Atomic = has-identifier-call «_Atomic»
   uses BitInt = has-identifier-call «_BitInt»
@@ -102,6 +110,7 @@ least f (Lacks g) = if leb (featureDetail f) (featureDetail g) then Lacks f else
 
 -- What the standard lacks of these features: `validate_profile_features`, a feature after the other.
 unfoldable pub lacking : (ignoring : Bool) (standard : ℕ) → (kinds words : List ℕ) → List Since → Lack
+unfolding uses least
 lacking ignoring standard kinds words [] = Nothing
 lacking ignoring standard kinds words (s ∷ ss) =
     let rest = lacking ignoring standard kinds words ss in
@@ -109,4 +118,5 @@ lacking ignoring standard kinds words (s ∷ ss) =
 
 -- `validate_profile_features`
 unfoldable pub missing-feature : (language standard : ℕ) → (kinds words : List ℕ) → Lack
+unfolding lacking features
 missing-feature language standard kinds words = lacking (ignores-case language) standard kinds words (features language)

@@ -2,7 +2,8 @@
 use mathlib.Core.Path.{refl, sym, ap, _∙_}
 use native.Mathlib.Omega.{arith}
 use borrow.Author.Needs.{needs}
-use Rattle.profile.specs.Profile.{features, missing-feature}
+use Rattle.rows.specs.Languages.{C, Cpp, Fortran}
+use Rattle.profile.specs.Profile.{ignores-case, features, missing-feature}
 use Rattle.profile.specs.Laws.Lacking.{lacking-as, lacks-nothing}
 use borrow.Author.Tests.{eq-eqb, ne-eqb}
 use borrow.Author.Needs.{needs}
@@ -23,25 +24,25 @@ missing-in-c-requires c κs = search needs
 
 returns : tie.Need-returns
 unfolding missing-feature features
-returns c = rw (c .before .if1 .taken) (lacking-as _ _ _ _ (c .before .before .ignores-case .ensures) (c .missing-in-c .ensures))
+returns c = rw (c .before .if1 .taken) (lacking-as (c .before .before .before .before .before .args .standard) (c .before .before .before .before .before .args .kinds .now) (c .before .before .before .before .before .args .words .now) (features C) (c .before .before .ignores-case .ensures) (c .missing-in-c .ensures))
 
 missing-in-cpp-requires : tie.Need-missing-in-cpp-requires
 missing-in-cpp-requires c κs = search needs
 
 returns-2 : tie.Need-returns-2
 unfolding missing-feature features
-returns-2 c = rw (c .before .if2 .taken) (lacking-as _ _ _ _ (c .before .before .before .ignores-case .ensures) (c .missing-in-cpp .ensures))
+returns-2 c = rw (c .before .if2 .taken) (lacking-as (c .before .before .before .before .before .before .args .standard) (c .before .before .before .before .before .before .args .kinds .now) (c .before .before .before .before .before .before .args .words .now) (features Cpp) (c .before .before .before .ignores-case .ensures) (c .missing-in-cpp .ensures))
 
 missing-in-fortran-requires : tie.Need-missing-in-fortran-requires
 missing-in-fortran-requires c κs = search needs
 
 returns-3 : tie.Need-returns-3
 unfolding missing-feature features
-returns-3 c = rw (c .before .if3 .taken) (lacking-as _ _ _ _ (c .before .before .before .before .ignores-case .ensures) (c .missing-in-fortran .ensures))
+returns-3 c = rw (c .before .if3 .taken) (lacking-as (c .before .before .before .before .before .before .before .args .standard) (c .before .before .before .before .before .before .before .args .kinds .now) (c .before .before .before .before .before .before .before .args .words .now) (features Fortran) (c .before .before .before .before .ignores-case .ensures) (c .missing-in-fortran .ensures))
 
 returns-4 : tie.Need-returns-4
 unfolding missing-feature features
-returns-4 c = rw (ne-eqb _ _ (c .before .before .if1 .left), ne-eqb _ _ (c .before .if2 .left), ne-eqb _ _ (c .if3 .left)) (lacks-nothing _ (c .before .before .before .before .before .before .args .standard) (c .before .before .before .before .before .before .args .kinds .now) (c .before .before .before .before .before .before .args .words .now))
+returns-4 c = rw (ne-eqb _ _ (c .before .before .if1 .left), ne-eqb _ _ (c .before .if2 .left), ne-eqb _ _ (c .if3 .left)) (lacks-nothing (ignores-case (c .before .before .before .before .before .before .args .language)) (c .before .before .before .before .before .before .args .standard) (c .before .before .before .before .before .before .args .kinds .now) (c .before .before .before .before .before .before .args .words .now))
 
 pub validate-profile-features-spec : {M : Type 1} → statement M
 validate-profile-features-spec =
