@@ -47,6 +47,7 @@ with-room room h ts = if ltb room (numbers-per-token * length ts) then untouched
 
 -- The head and the row of a file, with a tree buffer of `room` numbers.
 unfoldable pub file-row : Format → (file : List ℕ) (room : ℕ) → Outcome HeadRow
+unfolding on-pass head-read row-read with-room
 file-row f file room =
     on-pass (head-read (head f file)) λ h.
     on-pass (row-read (records-from f file most-tokens head-length)) λ ts.

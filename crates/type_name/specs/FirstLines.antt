@@ -3,21 +3,11 @@
 use Prim.Native.Nat.{ℕ}
 use mathlib.Core.List.{List, map}
 use Rattle.rows.specs.Refusals.{refusalOf}
-use Rattle.rows.specs.Notation.{_is-one-of_}
-use Rattle.rows.specs.Words.{known, bytes, lower, same-through, same-exactly, same-ignoring-case, number-among, word-number, exactly, ignoring-case}
-use Rattle.type_nodes.specs.Shapes.{shape-of, empty, next, arguments-of, prepend, elements-are-full, shape, node-identifier, is-single-token, is-ellipsis, split-on-commas}
-use Rattle.type_nodes.specs.Sets.{builtin-type-words, scalar-bases, signs, declarator-qualifiers, parenthesis-words, typeof-words, elaborated-words, cpp-elaborated-words, derived-type-words, words-after-double, is-c-builtin-type-word, is-c-family-declarator-qualifier, is-keyword, reference-operators, declarator-starts, literals, member-accesses, accesses-of, prefix-operators, postfix-operators, c-family-operators, fortran-operators, is-binary-or-assignment-operator}
-use Rattle.type_nodes.specs.AbstractDeclarators.{any, looks-like-abstract-declarator}
-use Rattle.type_nodes.specs.Moves.{on-if, inside-if}
-use Rattle.type_nodes.specs.Specifiers.{none-seen, times, has, once-more, how-many, builtin-words, too-often, no-builtin-word, validate-c-bit-int-sign, validate-c-builtin-combination, specifiers-end, parenthesis-word, qualifier-word, elaborated-word, builtin-word, name-word, specifier-scope, specifier-list, specifier-node, specifiers-from, validate-c-decl-specifiers}
-use Rattle.structure.specs.Said.{after, both, either, plain, every}
-use Rattle.structure.specs.Declarators.{scope-has-valid-neighbors, is-part-of-name, type-end, declarator-end, c-family-group, c-family-node, abstract-declarator-node}
-use Rattle.structure.specs.Expressions.{expression-end, expression-node}
-use Rattle.structure.specs.FortranTypes.{fortran-head, validate-fortran-type-head, fortran-end, fortran-node}
-use Rattle.structure.specs.Structure.{validate-cpp-template-argument, validate-parameter, validate-parameter-type-list, validate-fortran-selector-value, validate-fortran-selector, validate-fortran-selector-list, test, follow, loop, validate-c-family-type, validate-expression, validate-abstract-declarator, validate-fortran-type, turn, checkF, checked, validate-structured-syntax}
-use Rattle.profile.specs.Profile.{some-below, kind-is, identifier-is, some-token, has-kind, has-adjacent-identifiers, has-identifier-call, has-identifier-followed-by-star, has-assumed-rank, uses, features, least, lacking, missing-feature}
-use Rattle.rows.specs.Format.{meant, declared, stands-for, asks-structure}
-use Rattle.rows.specs.Records.{head, head-formed, head-with, little-endian, records-from, to-end, tokens-from, after-record, found, well-formed, length-fits, word-fits, word-at, span-end-at, span-start-at, kind-at, length-at, in-range, before-tokens, kinds-of, words-of}
+use Rattle.rows.specs.Words.{word-number}
+use Rattle.structure.specs.Syntax.{validate-structured-syntax}
+use Rattle.profile.specs.Profile.{missing-feature}
+use Rattle.rows.specs.Format.{meant, declared, stands-for}
+use Rattle.rows.specs.Records.{head, head-formed, head-with, little-endian, records-from, to-end, tokens-from, after-record, found, well-formed, length-fits, word-fits, word-at, span-end-at, span-start-at, kind-at, length-at, in-range, before-tokens}
 use Rattle.rows.specs.declared.answer.TypeNameError.{TypeNameError}
 use Rattle.rows.specs.declared.answer.Answer.{Answer}
 use Rattle.rows.specs.declared.answer.Answer.the-variants.{Accepted, Refused}
@@ -25,8 +15,7 @@ use Rattle.prescan.specs.Prescan.{prescan}
 use Rattle.reader.specs.Nodes.{count, records}
 use Rattle.reader.specs.Reading.{reading, kindAt}
 use Rattle.reader.specs.Written.{Token}
-use Rattle.type_name.specs.FileRow.{on-pass, head-read, row-read, with-room, file-row}
-use Rattle.type_name.specs.Answers.{RowAnswer, accepted, refused, on-tree, refusal-of, whole-row, tree-of, after-prescan, row-tree, structure-of, by-structure, by-profile, tree-checked, unlimited, row-steps, answer-within, answerOf, row-answer, answer, answer-in, outcome, final-buffer, buffer-in, filled}
+use Rattle.type_name.specs.Answers.{RowAnswer, accepted, refused, on-tree, unlimited, answer, final-buffer}
 
 -- Document 01, `listing`: "first line nodes and steps"; "number, token, detail, steps".
 pub data FirstLine : Type 0 where
@@ -57,7 +46,7 @@ words-in row = map (λ (t : Token). word-number (t .word)) row
 
 -- `listing`'s first line for a row by its kinds and word numbers. Whoever unfolds this computes with all the definitions.
 unfoldable pub first-line-by-numbers : (language standard flag : ℕ) → (kinds words : List ℕ) → FirstLine
-unfolding first-line count records prescan reading kindAt unlimited tree-checked on-tree row-tree after-prescan tree-of whole-row structure-of asks-structure by-structure by-profile refusal-of _is-one-of_ known bytes lower same-through same-exactly same-ignoring-case number-among word-number exactly ignoring-case shape-of empty next arguments-of prepend elements-are-full shape node-identifier any is-single-token is-ellipsis split-on-commas builtin-type-words scalar-bases signs declarator-qualifiers parenthesis-words typeof-words elaborated-words cpp-elaborated-words derived-type-words words-after-double is-c-builtin-type-word is-c-family-declarator-qualifier is-keyword reference-operators declarator-starts literals member-accesses accesses-of prefix-operators postfix-operators c-family-operators fortran-operators is-binary-or-assignment-operator after both either plain every on-if inside-if none-seen times has once-more how-many builtin-words too-often no-builtin-word validate-c-bit-int-sign validate-c-builtin-combination specifiers-end parenthesis-word qualifier-word elaborated-word builtin-word name-word specifier-scope specifier-list specifier-node specifiers-from validate-c-decl-specifiers looks-like-abstract-declarator scope-has-valid-neighbors is-part-of-name type-end declarator-end c-family-group c-family-node abstract-declarator-node expression-end expression-node fortran-head validate-fortran-type-head fortran-end fortran-node validate-cpp-template-argument validate-parameter validate-parameter-type-list validate-fortran-selector-value validate-fortran-selector validate-fortran-selector-list test follow loop validate-c-family-type validate-expression validate-abstract-declarator validate-fortran-type turn checkF checked validate-structured-syntax some-below kind-is identifier-is some-token has-kind has-adjacent-identifiers has-identifier-call has-identifier-followed-by-star has-assumed-rank uses features least lacking missing-feature
+unfolding first-line records prescan reading kindAt on-tree unlimited word-number validate-structured-syntax missing-feature
 first-line-by-numbers language standard flag kinds words = first-line (unlimited language standard flag kinds words)
 
 -- `listing`'s first line for a row of tokens.
@@ -67,5 +56,5 @@ first-line-of language standard flag row = first-line-by-numbers language standa
 
 -- The line of a file with a tree buffer of `room` numbers. Whoever unfolds this computes with all the definitions, those of the file too.
 unfoldable pub file-first-line : (file : List ℕ) (room : ℕ) → FirstLine
-unfolding answer-first-line answer answer-in outcome on-pass row-answer file-row head-read row-read with-room final-buffer buffer-in filled answerOf answer-within row-steps first-line-of head head-formed head-with meant declared stands-for little-endian records-from to-end tokens-from after-record found well-formed length-fits word-fits word-at span-end-at span-start-at kind-at length-at in-range before-tokens kinds-of words-of
+unfolding answer-first-line answer final-buffer first-line-of head head-formed head-with meant declared stands-for little-endian records-from to-end tokens-from after-record found well-formed length-fits word-fits word-at span-end-at span-start-at kind-at length-at in-range before-tokens
 file-first-line file room = answer-first-line (answer file room)

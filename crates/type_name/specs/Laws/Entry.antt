@@ -34,7 +34,7 @@ use Rattle.reader.specs.Laws.Bounds.{two-nodes}
 use Rattle.reader.specs.Laws.Buffer.{holds as in-buffer}
 use Rattle.type_nodes.specs.Stands.{WordedNodes}
 use Rattle.structure.specs.Said.{Said, holds, fails, after}
-use Rattle.structure.specs.Structure.{validate-structured-syntax}
+use Rattle.structure.specs.Syntax.{validate-structured-syntax}
 use Rattle.structure.specs.Allowance as Steps
 use Rattle.structure.specs.VerdictSays as Structure
 use Rattle.structure.specs.Laws.Limits.{limited-after}
