@@ -21,7 +21,7 @@ ghost use lib.Dec.{eqb};
 ghost use Rattle.rows.specs.Kinds.{Comma};
 ghost use Rattle.reader.specs.Nodes.{number, numbers-bound};
 ghost use Rattle.reader.specs.Reading.{is-angle-close, kindAt, starts, top};
-ghost use Rattle.reader.specs.Tables.{Plain, Plans, PlansGroup, region-of, node-of, started};
+ghost use Rattle.reader.specs.Tables.{Plans, PlansGroup, region-of, node-of, started, takes-token};
 
 // How a node begins.
 pub enum Start {
@@ -151,7 +151,7 @@ pub fn node_start(cpp: bool, after_identifier: bool, kind: u8) -> Start
 
 // A token of this kind is a node by itself.
 pub fn is_plain(cpp: bool, after_identifier: bool, kind: u8) -> bool
-    ensures { λ r. ⌜ Plain cpp «after_identifier» kind r ⌝ }
+    ensures { λ r. ⌜ r ≡ takes-token (starts cpp «after_identifier» kind) ⌝ }
 {
     let start = node_start(cpp, after_identifier, kind);
     if let Start::Token = start {
