@@ -6,10 +6,12 @@
 //! running the original. Everything else serves it: `format` takes files
 //! apart, `copies` runs the original, `tree` makes node records of its trees,
 //! `listing` prints answers, `generate` makes cases, `worked_rows` holds the
-//! rows that document 01 works out, `replay` writes the list of answers that a
+//! rows that document 01 works out, `chosen_rows` such as notice a change of a
+//! rule, `replay` writes the list of answers that a
 //! program replays, `token_list` is the original for measuring.
 
 pub mod answer;
+pub mod chosen_rows;
 pub mod copies;
 pub mod format;
 pub mod generate;

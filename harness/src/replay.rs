@@ -4,7 +4,11 @@
 use std::collections::{BTreeMap, BTreeSet};
 
 use crate::answer::{Answer, Refusal};
-use crate::format::{HEAD_LENGTH, Head, MOST_BYTES, MOST_TOKENS, NUMBERS_PER_TOKEN, Row, Token};
+use crate::chosen_rows;
+use crate::format::{
+    FLAG_AT, GREATEST_FLAG, HEAD_LENGTH, Head, MOST_BYTES, MOST_TOKENS, NUMBERS_PER_TOKEN, Row,
+    Token,
+};
 use crate::generate::random::Random;
 use crate::generate::{self, Case, DEFAULT_ALLOWANCE};
 use crate::kind::Kind;
@@ -31,6 +35,7 @@ const VARIED: usize = 24;
 pub fn cases() -> Vec<Case> {
     let mut cases = worked();
     cases.extend(outermost());
+    cases.extend(chosen_rows::cases());
     let chosen = chosen();
     let varied = chosen.iter().step_by(VARIED).flat_map(generate::around);
     let varied: Vec<Case> = varied.collect();
@@ -54,7 +59,7 @@ fn exact(row: &Row) -> Case {
 }
 
 /// The longest file and the longest row that pass, and one byte and one record
-/// more.
+/// more: well-formed, and with a fault that would be refused otherwise.
 fn outermost() -> Vec<Case> {
     let head = Head {
         language: 0,
@@ -72,7 +77,15 @@ fn outermost() -> Vec<Case> {
     stars[0] = Token::word("int");
     let mut more = stars.clone();
     more.push(Token::plain(Kind::Star));
-    vec![row(words), row(longer), row(stars), row(more)]
+    let mut bad_head = row(longer.clone());
+    bad_head.file[FLAG_AT] = GREATEST_FLAG + 1;
+    let mut cut_record = row(more.clone());
+    cut_record.file.pop();
+    let passing_and_more = [words, longer, stars, more].map(row);
+    passing_and_more
+        .into_iter()
+        .chain([bad_head, cut_record])
+        .collect()
 }
 
 /// The length of a word, so that as many words as a row can have fill a file.

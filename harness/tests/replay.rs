@@ -2,8 +2,14 @@
 
 use std::collections::BTreeSet;
 
-use harness::format::{ALLOWANCE_AT, HEAD_LENGTH, NUMBERS_PER_TOKEN, Row};
+use harness::format::{ALLOWANCE_AT, HEAD_LENGTH, Head, NUMBERS_PER_TOKEN, Row, TOKEN_LENGTH};
+use harness::generate::DEFAULT_ALLOWANCE;
+use harness::lexed;
+use harness::profile::{self, HostLanguage, MEANT_STANDARD};
 use harness::replay::list;
+
+/// The list that the program reads.
+const PATH: &str = concat!(env!("CARGO_MANIFEST_DIR"), "/../crates/replay/stdin");
 
 /// A case as the list has it.
 struct Stored {
@@ -55,14 +61,13 @@ fn order(number: u64, other: u64) -> &'static str {
 #[test]
 fn the_list_holds_every_answer_and_is_the_one_that_is_replayed() {
     let list = list();
-    let path = concat!(env!("CARGO_MANIFEST_DIR"), "/../crates/replay/stdin");
     assert!(
-        std::fs::read(path).unwrap() == list,
+        std::fs::read(PATH).unwrap() == list,
         "write it anew: harness replay"
     );
     let cases = stored(&list);
-    assert!(cases.len() > 4_000);
-    let wanted = std::fs::read_to_string(path.replace("stdin", "stdout")).unwrap();
+    assert!(cases.len() > 6_000);
+    let wanted = std::fs::read_to_string(PATH.replace("stdin", "stdout")).unwrap();
     assert_eq!(wanted, format!("{} replayed, 0 differ\n", cases.len()));
 
     let mut refusals = BTreeSet::new();
@@ -122,4 +127,70 @@ fn the_list_holds_every_answer_and_is_the_one_that_is_replayed() {
             })
     };
     assert!(cases.iter().filter(one_less).count() > 10);
+}
+
+/// The answers' numbers of the stored files that hold this word and nothing
+/// else.
+fn answers_of(cases: &[Stored], word: &[u8]) -> BTreeSet<u32> {
+    let record = HEAD_LENGTH + TOKEN_LENGTH;
+    let holds = |case: &&Stored| {
+        case.file.len() == record + word.len()
+            && case.file[HEAD_LENGTH + 2..HEAD_LENGTH + 4] == [0, 0]
+            && case.file[record..] == *word
+    };
+    let found = cases.iter().filter(holds);
+    found.map(|case| case.answer[0]).collect()
+}
+
+#[test]
+fn words_are_replayed_at_their_limits() {
+    let cases = stored(&std::fs::read(PATH).unwrap());
+    let accepted = BTreeSet::from([0]);
+    let refused = BTreeSet::from([4]);
+    for (length, wanted) in [(254, &accepted), (255, &accepted), (256, &refused)] {
+        assert_eq!(answers_of(&cases, &vec![b'w'; length]), *wanted);
+    }
+    for (byte, wanted) in [
+        (32, &refused),
+        (33, &accepted),
+        (126, &accepted),
+        (127, &refused),
+    ] {
+        assert_eq!(answers_of(&cases, &[byte]), *wanted);
+        assert_eq!(answers_of(&cases, &[b'a', byte]), *wanted);
+    }
+}
+
+/// The answer's number and steps that the list has for a text in C++17.
+fn answer_of(cases: &[Stored], text: &str, flag: u8, allowance: u32) -> Option<[u32; 2]> {
+    let profile = profile::profile(HostLanguage::Cpp, MEANT_STANDARD).unwrap();
+    let head = Head {
+        language: 1,
+        standard: MEANT_STANDARD,
+        flag,
+        allowance,
+    };
+    let tokens = lexed::tokens(text, profile).unwrap();
+    let file = Row { head, tokens }.write();
+    let found = cases.iter().find(|case| case.file == file)?;
+    Some(match found.answer {
+        [0, _, steps, _] => [0, steps],
+        [number, _, _, steps] => [number, steps],
+    })
+}
+
+#[test]
+fn lists_halves_and_tries_are_replayed() {
+    let cases = stored(&std::fs::read(PATH).unwrap());
+    for text in ["A(b)<c>", "A<(B<c>>D<e>)>", "A<(B<c>>d),e>"] {
+        for flag in [0, 1] {
+            assert!(answer_of(&cases, text, flag, DEFAULT_ALLOWANCE).is_some());
+        }
+    }
+    // Document 01: 21 after 12 steps; each of them can be the one too many.
+    for allowance in 0..12 {
+        let answer = answer_of(&cases, "Slots<(Lanes<8)>", 1, allowance);
+        assert_eq!(answer, Some([25, allowance]));
+    }
+    assert_eq!(answer_of(&cases, "Slots<(Lanes<8)>", 1, 12), Some([21, 12]));
 }

@@ -1,8 +1,6 @@
 // How many groups and lists stand above a node.
 
-use reader::nodes::BRACKETS_NODE;
-use reader::nodes::LIST_NODE;
-use reader::nodes::PARENTHESES_NODE;
+use reader::nodes;
 use reader::nodes::node_extent;
 use reader::nodes::node_kind;
 ghost use mathlib.Core.Path.{_≡_};
@@ -16,7 +14,7 @@ fn makes_level(kind: u32) -> bool
     ensures { λ r. ⌜ r ≡ makes-level kind ⌝ }
 {
     match kind {
-        PARENTHESES_NODE | BRACKETS_NODE | LIST_NODE => true,
+        nodes::PARENTHESES_NODE | nodes::BRACKETS_NODE | nodes::LIST_NODE => true,
         _ => false,
     }
 }

@@ -1,12 +1,7 @@
 // The lines of a listing. Each function puts its text behind the first `at` bytes and returns how many bytes there are then.
 
 use crate::level::level;
-use reader::nodes::ARGUMENT_NODE;
-use reader::nodes::BRACKETS_NODE;
-use reader::nodes::LIST_NODE;
-use reader::nodes::NODE_WIDTH;
-use reader::nodes::PARENTHESES_NODE;
-use reader::nodes::TOKEN_NODE;
+use reader::nodes;
 use reader::nodes::node_extent;
 use reader::nodes::node_kind;
 use reader::nodes::node_token;
@@ -41,11 +36,11 @@ fn letter(kind: u32) -> u8
     ensures { λ r. ⌜ r ≡ letter-of kind ⌝ }
 {
     match kind {
-        TOKEN_NODE => b'T',
-        PARENTHESES_NODE => b'G',
-        BRACKETS_NODE => b'B',
-        LIST_NODE => b'L',
-        ARGUMENT_NODE => b'A',
+        nodes::TOKEN_NODE => b'T',
+        nodes::PARENTHESES_NODE => b'G',
+        nodes::BRACKETS_NODE => b'B',
+        nodes::LIST_NODE => b'L',
+        nodes::ARGUMENT_NODE => b'A',
         _ => b'?',
     }
 }
@@ -98,7 +93,7 @@ fn put_refused(text: &mut [u8], at: usize, refusal: Refusal, steps: u32) -> usiz
 fn listed_nodes(nodes: u32, tree: &[u32]) -> usize
     ensures { λ r. ⌜ r ≡ listed nodes (now (tree .entry)) ⌝ }
 {
-    let room = tree.len() / NODE_WIDTH;
+    let room = tree.len() / nodes::NODE_WIDTH;
     let count = nodes as usize;
     if count < room { count } else { room }
 }

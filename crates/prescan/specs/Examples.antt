@@ -26,6 +26,13 @@ worked : ask Cpp [] ∷ ask Cpp (Identifier ∷ Less ∷ Identifier ∷ ShiftRig
 unfolding ask
 worked = refl
 
+-- 16, one `<` after the other: in `A<b>::C<d<e>` the first is named, not 6, the innermost that is open, and not 8, the last; in `A<B<c` not 3
+first-angle : ask Cpp (Identifier ∷ Less ∷ Identifier ∷ Greater ∷ Scope ∷ Identifier ∷ Less ∷ Identifier ∷ Less ∷ Identifier ∷ Greater ∷ [])
+    ∷ ask Cpp (Identifier ∷ Less ∷ Identifier ∷ Less ∷ Identifier ∷ []) ∷ []
+    ≡ named 16 1 0 ∷ named 16 1 0 ∷ []
+unfolding ask
+first-angle = refl
+
 -- 11: `A)`, `A(]`, `A[)`; 14; 15: `A([`
 brackets : ask C (Identifier ∷ RightParen ∷ []) ∷ ask C (Identifier ∷ LeftParen ∷ RightBracket ∷ []) ∷ ask C (Identifier ∷ LeftBracket ∷ RightParen ∷ [])
     ∷ ask C (Identifier ∷ End ∷ []) ∷ ask C (Identifier ∷ LeftParen ∷ LeftBracket ∷ []) ∷ []

@@ -74,7 +74,7 @@ abbrev pub StillSound : (kinds stack : List ℕ) → (at : ℕ) → ScanStep →
 StillSound kinds stack at (On s) = Sound kinds stack s at
 StillSound kinds stack at (Refused e) = Unit {0}
 
--- Token `at` was taken as the definition takes it. After a refusal what the stack holds is free.
+-- Token `at` was taken as the definition takes it. What the stack holds past its openers, and after a refusal, is free.
 pub record Takes (kinds stack : List ℕ) (at : ℕ) (r : ScanStep) (d : Scanned) : Type 0 where
   pub says : outcome-of kinds stack r ≡ d
   pub sound : StillSound kinds stack (suc at) r

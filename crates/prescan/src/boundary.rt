@@ -4,18 +4,8 @@ use crate::scan::ScanState;
 use crate::scan::delimiter;
 use crate::scan::index;
 use rows::answer::TypeNameError;
-use rows::kinds::AMPERSAND;
-use rows::kinds::GREATER;
-use rows::kinds::IDENTIFIER;
-use rows::kinds::INTEGER;
-use rows::kinds::LOGICAL_AND;
-use rows::kinds::RIGHT_BRACKET;
-use rows::kinds::RIGHT_PAREN;
-use rows::kinds::SCOPE;
-use rows::kinds::SHIFT_RIGHT;
-use rows::kinds::STAR;
-use rows::languages::C;
-use rows::languages::FORTRAN;
+use rows::kinds;
+use rows::languages;
 ghost use mathlib.Core.Path.{_≡_};
 ghost use Prim.Native.Nat.{_-_, _<_};
 ghost use lib.ListN.{getD, length};
@@ -32,20 +22,21 @@ pub enum Prescanned {
 fn is_valid_start(first: u8) -> bool
     ensures { λ r. ⌜ r ≡ valid-start first ⌝ }
 {
-    (first == IDENTIFIER) | (first == SCOPE)
+    (first == kinds::IDENTIFIER) | (first == kinds::SCOPE)
 }
 
 fn is_valid_end(language: u8, before: u8, last: u8) -> bool
     ensures { λ r. ⌜ r ≡ valid-end language before last ⌝ }
 {
-    (last == IDENTIFIER)
-        | (last == RIGHT_PAREN)
-        | (last == RIGHT_BRACKET)
-        | (last == GREATER)
-        | (last == SHIFT_RIGHT)
-        | (last == STAR)
-        | (!(language == C) & ((last == AMPERSAND) | (last == LOGICAL_AND)))
-        | ((language == FORTRAN) & (before == STAR) & (last == INTEGER))
+    (last == kinds::IDENTIFIER)
+        | (last == kinds::RIGHT_PAREN)
+        | (last == kinds::RIGHT_BRACKET)
+        | (last == kinds::GREATER)
+        | (last == kinds::SHIFT_RIGHT)
+        | (last == kinds::STAR)
+        | (!(language == languages::C)
+            & ((last == kinds::AMPERSAND) | (last == kinds::LOGICAL_AND)))
+        | ((language == languages::FORTRAN) & (before == kinds::STAR) & (last == kinds::INTEGER))
 }
 
 // The kind before the last token's; of a single token, its own.

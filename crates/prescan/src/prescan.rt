@@ -7,7 +7,7 @@ use crate::scan::ScanStep;
 use crate::scan::take;
 use rows::answer::NO_TOKEN;
 use rows::answer::TypeNameError;
-use rows::kinds::NO_TOKEN_KIND;
+use rows::kinds;
 ghost use Prim.Native.Nat.{_<_, _≤_, _^_};
 ghost use lib.ListN.{length};
 ghost use Rattle.prescan.specs.Prescan.{prescan};
@@ -26,7 +26,7 @@ pub fn prescan_row(language: u8, kinds: &[u8], stack: &mut [u32]) -> Prescanned
         angles: 0,
         first: NO_TOKEN,
         word: false,
-        last: NO_TOKEN_KIND,
+        last: kinds::NO_TOKEN_KIND,
     };
     let mut at = 0;
     while at < kinds.len() {

@@ -4,17 +4,8 @@ use rows::answer::Delimiter;
 use rows::answer::NO_TOKEN;
 use rows::answer::Open;
 use rows::answer::TypeNameError;
-use rows::kinds::COMMA;
-use rows::kinds::END;
-use rows::kinds::GREATER;
-use rows::kinds::IDENTIFIER;
-use rows::kinds::LEFT_BRACKET;
-use rows::kinds::LEFT_PAREN;
-use rows::kinds::LESS;
-use rows::kinds::RIGHT_BRACKET;
-use rows::kinds::RIGHT_PAREN;
-use rows::kinds::SHIFT_RIGHT;
-use rows::languages::CPP;
+use rows::kinds;
+use rows::languages;
 ghost use mathlib.Core.Path.{_≡_};
 ghost use Prim.Native.Nat.{_+_, _<_, _≤_, _^_};
 ghost use lib.ListN.{getD, length, set};
@@ -62,7 +53,7 @@ pub fn index(token: u32) -> usize
 pub fn delimiter(kind: u8) -> Delimiter
     ensures { λ r. ⌜ r ≡ delimiter-of kind ⌝ }
 {
-    if kind == LEFT_PAREN {
+    if kind == kinds::LEFT_PAREN {
         return Delimiter::Parenthesis;
     }
     Delimiter::Bracket
@@ -71,12 +62,12 @@ pub fn delimiter(kind: u8) -> Delimiter
 fn opens_angle(language: u8, last: u8) -> bool
     ensures { λ r. ⌜ r ≡ opens-angle language last ⌝ }
 {
-    (language == CPP)
-        & ((last == IDENTIFIER)
-            | (last == GREATER)
-            | (last == SHIFT_RIGHT)
-            | (last == RIGHT_PAREN)
-            | (last == RIGHT_BRACKET))
+    (language == languages::CPP)
+        & ((last == kinds::IDENTIFIER)
+            | (last == kinds::GREATER)
+            | (last == kinds::SHIFT_RIGHT)
+            | (last == kinds::RIGHT_PAREN)
+            | (last == kinds::RIGHT_BRACKET))
 }
 
 // Past a token of this kind, with these brackets and angles.
@@ -87,7 +78,7 @@ fn past(s: ScanState, kind: u8, depth: usize, angles: usize, first: u32) -> Scan
         depth,
         angles,
         first,
-        word: s.word | (kind == IDENTIFIER),
+        word: s.word | (kind == kinds::IDENTIFIER),
         last: kind,
     }
 }
@@ -98,7 +89,7 @@ fn outside(language: u8, kind: u8, at: usize, s: ScanState) -> ScanStep
     ensures { λ r. ⌜ Steps [] s r (outside-brackets language kind at (scan-of [] s)) ⌝ }
 {
     let token = at as u32;
-    if kind == LESS {
+    if kind == kinds::LESS {
         if opens_angle(language, s.last) {
             if s.first == NO_TOKEN {
                 return ScanStep::On(past(s, kind, s.depth, s.angles + 1, token));
@@ -107,13 +98,13 @@ fn outside(language: u8, kind: u8, at: usize, s: ScanState) -> ScanStep
         }
         return ScanStep::Refused(TypeNameError::UnexpectedAngle { token });
     }
-    if kind == GREATER {
+    if kind == kinds::GREATER {
         if s.angles == 0 {
             return ScanStep::Refused(TypeNameError::UnexpectedAngle { token });
         }
         return ScanStep::On(past(s, kind, s.depth, s.angles - 1, s.first));
     }
-    if kind == SHIFT_RIGHT {
+    if kind == kinds::SHIFT_RIGHT {
         if s.angles == 1 {
             return ScanStep::Refused(TypeNameError::UnexpectedAngle { token });
         }
@@ -122,7 +113,7 @@ fn outside(language: u8, kind: u8, at: usize, s: ScanState) -> ScanStep
         }
         return ScanStep::On(past(s, kind, s.depth, s.angles, s.first));
     }
-    if kind == COMMA {
+    if kind == kinds::COMMA {
         if s.angles == 0 {
             return ScanStep::Refused(TypeNameError::TopLevelComma { token });
         }
@@ -180,19 +171,19 @@ pub fn take(language: u8, kinds: &[u8], stack: &mut [u32], s: ScanState, at: usi
     ensures { λ r. ⌜ Takes (now (kinds .entry)) (now (stack .exit)) at r (take-token language (getD (now (kinds .entry)) at 0) at (passed (scan-of (openers (now (kinds .entry)) (now (stack .entry)) (s .depth)) s))) ⌝ }
 {
     let kind = kinds[at];
-    if kind == LEFT_PAREN {
+    if kind == kinds::LEFT_PAREN {
         return ScanStep::On(push(stack, s, kind, at));
     }
-    if kind == LEFT_BRACKET {
+    if kind == kinds::LEFT_BRACKET {
         return ScanStep::On(push(stack, s, kind, at));
     }
-    if kind == RIGHT_PAREN {
+    if kind == kinds::RIGHT_PAREN {
         return close_delimiter(kinds, stack, s, kind, at, Delimiter::Parenthesis);
     }
-    if kind == RIGHT_BRACKET {
+    if kind == kinds::RIGHT_BRACKET {
         return close_delimiter(kinds, stack, s, kind, at, Delimiter::Bracket);
     }
-    if kind == END {
+    if kind == kinds::END {
         return ScanStep::Refused(TypeNameError::UnexpectedEndToken { token: at as u32 });
     }
     if 0 < s.depth {

@@ -1,12 +1,7 @@
 // What a row uses, by its token kinds and word numbers: the tests of `validate_profile_features`.
 
-use rows::kinds::DOT;
-use rows::kinds::IDENTIFIER;
-use rows::kinds::LEFT_PAREN;
-use rows::kinds::NO_TOKEN_KIND;
-use rows::kinds::RIGHT_PAREN;
-use rows::kinds::STAR;
-use rows::word_numbers::NO_WORD;
+use rows::kinds;
+use rows::word_numbers;
 use rows::word_numbers::exactly;
 use rows::word_numbers::ignoring_case;
 ghost use mathlib.Core.Path.{_≡_};
@@ -22,7 +17,7 @@ fn kind_is(kinds: &[u8], at: usize, kind: u8) -> bool
     if at < kinds.len() {
         return kinds[at] == kind;
     }
-    NO_TOKEN_KIND == kind
+    kinds::NO_TOKEN_KIND == kind
 }
 
 fn word_at(words: &[u8], at: usize) -> u8
@@ -31,7 +26,7 @@ fn word_at(words: &[u8], at: usize) -> u8
     if at < words.len() {
         return words[at];
     }
-    NO_WORD
+    word_numbers::NO_WORD
 }
 
 // Whether `identifier_is` ignores case: in every language.
@@ -56,7 +51,7 @@ fn identifier_is(ignoring: bool, kinds: &[u8], words: &[u8], at: usize, word: u8
     if compared(ignoring, word_at(words, at)) != word {
         return false;
     }
-    kind_is(kinds, at, IDENTIFIER)
+    kind_is(kinds, at, kinds::IDENTIFIER)
 }
 
 pub fn has_kind(kinds: &[u8], kind: u8) -> bool
@@ -101,7 +96,7 @@ pub fn has_identifier_call(ignoring: bool, kinds: &[u8], words: &[u8], name: u8)
     let mut at = 0;
     while at < kinds.len() {
         if identifier_is(ignoring, kinds, words, at, name) {
-            if kind_is(kinds, at + 1, LEFT_PAREN) {
+            if kind_is(kinds, at + 1, kinds::LEFT_PAREN) {
                 return true;
             }
             at += 1;
@@ -119,8 +114,8 @@ pub fn has_identifier_followed_by_star(ignoring: bool, kinds: &[u8], words: &[u8
     let mut at = 0;
     while at < kinds.len() {
         if identifier_is(ignoring, kinds, words, at, name)
-            & kind_is(kinds, at + 1, LEFT_PAREN)
-            & kind_is(kinds, at + 2, STAR)
+            & kind_is(kinds, at + 1, kinds::LEFT_PAREN)
+            & kind_is(kinds, at + 2, kinds::STAR)
         {
             return true;
         }
@@ -135,10 +130,10 @@ pub fn has_assumed_rank(kinds: &[u8]) -> bool
 {
     let mut at = 0;
     while at < kinds.len() {
-        if kind_is(kinds, at, LEFT_PAREN)
-            & kind_is(kinds, at + 1, DOT)
-            & kind_is(kinds, at + 2, DOT)
-            & kind_is(kinds, at + 3, RIGHT_PAREN)
+        if kind_is(kinds, at, kinds::LEFT_PAREN)
+            & kind_is(kinds, at + 1, kinds::DOT)
+            & kind_is(kinds, at + 2, kinds::DOT)
+            & kind_is(kinds, at + 3, kinds::RIGHT_PAREN)
         {
             return true;
         }

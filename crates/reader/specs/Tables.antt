@@ -2,7 +2,7 @@
 -- Assumes nothing.
 use Prim.Native.Nat.{ℕ, suc}
 use mathlib.Core.Path.{_≡_}
-use mathlib.Core.Bool.{Bool, true}
+use mathlib.Core.Bool.{Bool, true, false}
 use lib.Dec.{eqb}
 use Rattle.rows.specs.Notation.{if_then_else_}
 use Rattle.rows.specs.Kinds.{Identifier, NoToken}
@@ -12,7 +12,7 @@ use Rattle.rows.specs.declared.answer.Open.{Open}
 use Rattle.rows.specs.declared.answer.Open.the-variants.{Nothing, Opened}
 use Rattle.rows.specs.declared.answer.TypeNameError.the-variants.{UnterminatedGroup, MismatchedClosingDelimiter}
 use Rattle.reader.specs.Nodes.{NodeKind, G-node, B-node}
-use Rattle.reader.specs.Reading.{Region, top, round, square, refusal, Next, ends, stops, token, group, angle, starts, next}
+use Rattle.reader.specs.Reading.{Region, top, round, square, refusal, Next, ends, stops, token, group, angle, first, starts, next}
 use Rattle.reader.specs.declared.tables.Start.{Start}
 use Rattle.reader.specs.declared.tables.Start.the-variants as Start
 use Rattle.reader.specs.declared.tables.GroupStep.{GroupStep}
@@ -43,9 +43,14 @@ started k (Start.Group d) = group (node-of d) (region-of (Opened d))
 started k Start.Angle = angle
 started k Start.Token = token (eqb k Identifier)
 
--- Where r is true, a token of kind k is a node by itself.
-pub record Plain (cpp after-identifier : Bool) (k : ℕ) (r : Bool) : Type 0 where
-  pub plain : r ≡ true → started k Start.Token ≡ starts cpp after-identifier k
+-- A token is taken as a node by itself.
+unfoldable pub takes-token : Next → Bool
+takes-token (ends at) = false
+takes-token (stops e) = false
+takes-token (token identifier) = true
+takes-token (group k l) = false
+takes-token angle = false
+takes-token first = false
 
 -- What is to be done at a token of the row or of a group.
 unfoldable pub planned : (cpp after-identifier : Bool) (k : ℕ) → GroupStep → Next

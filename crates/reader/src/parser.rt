@@ -18,10 +18,7 @@ use crate::tables::kind_at;
 use crate::tables::node_start;
 use rows::answer::Open;
 use rows::answer::TypeNameError;
-use rows::kinds::COMMA;
-use rows::kinds::IDENTIFIER;
-use rows::kinds::NO_TOKEN_KIND;
-use rows::kinds::SHIFT_RIGHT;
+use rows::kinds;
 ghost use mathlib.Core.Path.{_≡_};
 ghost use mathlib.Core.Bool.{false};
 ghost use mathlib.Core.List.{_∷_};
@@ -174,7 +171,7 @@ fn parse_group(
         };
         now = next;
         nodes = nodes + more;
-        after_identifier = kind == IDENTIFIER;
+        after_identifier = kind == kinds::IDENTIFIER;
     }
 }
 
@@ -289,7 +286,7 @@ fn take_angle_close(kinds: &[u8], parser: TypeSyntaxParser) -> TypeSyntaxParser
     }
     TypeSyntaxParser {
         cursor: at + 1,
-        pending_greater: kind_at(kinds, at) == SHIFT_RIGHT,
+        pending_greater: kind_at(kinds, at) == kinds::SHIFT_RIGHT,
         left: parser.left,
     }
 }
@@ -325,7 +322,7 @@ fn parse_template_arguments(
             if argument_ends(lists, kind, now.pending_greater) {
                 break 'nodes;
             }
-            if kind == NO_TOKEN_KIND {
+            if kind == kinds::NO_TOKEN_KIND {
                 break 'arguments ListEnd::Unterminated;
             }
             let start = head + NODE_WIDTH + NODE_WIDTH * inner;
@@ -343,7 +340,7 @@ fn parse_template_arguments(
             };
             now = next;
             inner = inner + more;
-            after_identifier = kind == IDENTIFIER;
+            after_identifier = kind == kinds::IDENTIFIER;
         }
         if inner == 0 {
             break 'arguments ListEnd::EmptyArgument;
@@ -351,7 +348,7 @@ fn parse_template_arguments(
         put_node(&mut tree[head..], ARGUMENT_NODE, first, inner + 1);
         nodes = nodes + inner + 1;
         let at = now.cursor;
-        if kind_at(kinds, at) != COMMA {
+        if kind_at(kinds, at) != kinds::COMMA {
             break 'arguments ListEnd::Closed;
         }
         now.cursor = at + 1;

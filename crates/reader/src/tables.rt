@@ -5,15 +5,7 @@ use crate::nodes::PARENTHESES_NODE;
 use rows::answer::Delimiter;
 use rows::answer::Open;
 use rows::answer::TypeNameError;
-use rows::kinds::COMMA;
-use rows::kinds::GREATER;
-use rows::kinds::LEFT_BRACKET;
-use rows::kinds::LEFT_PAREN;
-use rows::kinds::LESS;
-use rows::kinds::NO_TOKEN_KIND;
-use rows::kinds::RIGHT_BRACKET;
-use rows::kinds::RIGHT_PAREN;
-use rows::kinds::SHIFT_RIGHT;
+use rows::kinds;
 ghost use mathlib.Core.Path.{_≡_};
 ghost use mathlib.Core.Bool.{_||_};
 ghost use Prim.Native.Nat.{_≤_};
@@ -21,7 +13,7 @@ ghost use lib.Dec.{eqb};
 ghost use Rattle.rows.specs.Kinds.{Comma};
 ghost use Rattle.reader.specs.Nodes.{number, numbers-bound};
 ghost use Rattle.reader.specs.Reading.{is-angle-close, kindAt, starts, top};
-ghost use Rattle.reader.specs.Tables.{Plain, Plans, PlansGroup, region-of, node-of, started};
+ghost use Rattle.reader.specs.Tables.{Plans, PlansGroup, region-of, node-of, started, takes-token};
 
 // How a node begins.
 pub enum Start {
@@ -44,7 +36,7 @@ pub fn kind_at(kinds: &[u8], at: usize) -> u8
     if at < kinds.len() {
         return kinds[at];
     }
-    NO_TOKEN_KIND
+    kinds::NO_TOKEN_KIND
 }
 
 // A list can end here.
@@ -54,10 +46,10 @@ pub fn is_angle_close(lists: usize, kind: u8, half: bool) -> bool
     if half {
         return true;
     }
-    if kind == GREATER {
+    if kind == kinds::GREATER {
         return true;
     }
-    if kind == SHIFT_RIGHT {
+    if kind == kinds::SHIFT_RIGHT {
         return lists >= 2;
     }
     false
@@ -67,7 +59,7 @@ pub fn is_angle_close(lists: usize, kind: u8, half: bool) -> bool
 pub fn argument_ends(lists: usize, kind: u8, half: bool) -> bool
     ensures { λ r. ⌜ r ≡ is-angle-close lists kind half || eqb kind Comma ⌝ }
 {
-    if kind == COMMA {
+    if kind == kinds::COMMA {
         return true;
     }
     is_angle_close(lists, kind, half)
@@ -86,13 +78,13 @@ pub fn group_kind(delimiter: Delimiter) -> u32
 fn row_step(kind: u8, at: usize) -> GroupStep
     ensures { λ r. ⌜ Plans r top kind at ⌝ }
 {
-    if kind == NO_TOKEN_KIND {
+    if kind == kinds::NO_TOKEN_KIND {
         return GroupStep::Ends(at);
     }
-    if kind == RIGHT_PAREN {
+    if kind == kinds::RIGHT_PAREN {
         return GroupStep::Stops(TypeNameError::MismatchedClosingDelimiter);
     }
-    if kind == RIGHT_BRACKET {
+    if kind == kinds::RIGHT_BRACKET {
         return GroupStep::Stops(TypeNameError::MismatchedClosingDelimiter);
     }
     GroupStep::Node
@@ -103,7 +95,7 @@ fn bracket_step(close: u8, other: u8, kind: u8, at: usize) -> GroupStep
     requires { ⌜ at ≤ numbers-bound ⌝ }
     ensures { λ r. ⌜ PlansGroup r close other kind at ⌝ }
 {
-    if kind == NO_TOKEN_KIND {
+    if kind == kinds::NO_TOKEN_KIND {
         return GroupStep::Stops(TypeNameError::UnterminatedGroup);
     }
     if kind == close {
@@ -124,8 +116,8 @@ pub fn group_step(end: Open, kind: u8, at: usize) -> GroupStep
         return row_step(kind, at);
     };
     match delimiter {
-        Delimiter::Parenthesis => bracket_step(RIGHT_PAREN, RIGHT_BRACKET, kind, at),
-        Delimiter::Bracket => bracket_step(RIGHT_BRACKET, RIGHT_PAREN, kind, at),
+        Delimiter::Parenthesis => bracket_step(kinds::RIGHT_PAREN, kinds::RIGHT_BRACKET, kind, at),
+        Delimiter::Bracket => bracket_step(kinds::RIGHT_BRACKET, kinds::RIGHT_PAREN, kind, at),
     }
 }
 
@@ -133,13 +125,13 @@ pub fn group_step(end: Open, kind: u8, at: usize) -> GroupStep
 pub fn node_start(cpp: bool, after_identifier: bool, kind: u8) -> Start
     ensures { λ r. ⌜ started kind r ≡ starts cpp «after_identifier» kind ⌝ }
 {
-    if kind == LEFT_PAREN {
+    if kind == kinds::LEFT_PAREN {
         return Start::Group(Delimiter::Parenthesis);
     }
-    if kind == LEFT_BRACKET {
+    if kind == kinds::LEFT_BRACKET {
         return Start::Group(Delimiter::Bracket);
     }
-    if kind == LESS {
+    if kind == kinds::LESS {
         if cpp {
             if after_identifier {
                 return Start::Angle;
@@ -151,7 +143,7 @@ pub fn node_start(cpp: bool, after_identifier: bool, kind: u8) -> Start
 
 // A token of this kind is a node by itself.
 pub fn is_plain(cpp: bool, after_identifier: bool, kind: u8) -> bool
-    ensures { λ r. ⌜ Plain cpp «after_identifier» kind r ⌝ }
+    ensures { λ r. ⌜ r ≡ takes-token (starts cpp «after_identifier» kind) ⌝ }
 {
     let start = node_start(cpp, after_identifier, kind);
     if let Start::Token = start {

@@ -1,13 +1,16 @@
 -- The numbers of a replay list, and what it is that two lists of numbers differ.
 -- Assumes nothing.
 use Prim.Native.Nat.{ℕ, zero, suc, _+_, _*_}
-use mathlib.Core.Bool.{Bool}
+use mathlib.Core.Bool.{Bool, _&&_}
 use mathlib.Core.List.{List, [], _∷_, _++_}
-use lib.ListN.{length}
+use lib.ListN.{length, getD, take, drop, replicate}
 use lib.Dec.{eqb, ltb}
 use Rattle.rows.specs.Notation.{if_then_else_}
 use Rattle.rows.specs.Format.{format}
 use Rattle.rows.specs.Records.{little-endian}
+use Rattle.type_name.specs.Answers.{answer, final-buffer}
+use Rattle.type_name.specs.AnswerNumbers.{answer-code, answer-numbers}
+use Rattle.exports.specs.Numbers.{put-front}
 
 -- The bytes of a number of the list.
 abbrev pub number-bytes : ℕ
@@ -17,9 +20,25 @@ number-bytes = 4
 abbrev pub head-numbers : ℕ
 head-numbers = 9
 
--- Where the head of a case has the count of stored numbers.
+-- Where the head of a case has the number that fills the buffer before.
+abbrev pub fill-at : ℕ
+fill-at = 2
+
+-- Where it has the answer.
+abbrev pub answer-at : ℕ
+answer-at = 3
+
+-- How many numbers an answer has.
+abbrev pub answer-length : ℕ
+answer-length = 4
+
+-- Where it has the count of stored numbers.
 abbrev pub stored-at : ℕ
 stored-at = 7
+
+-- Where it has the number behind them.
+abbrev pub behind-at : ℕ
+behind-at = 8
 
 -- One byte more than a row file may have: no case has a longer file.
 abbrev pub file-length : ℕ
@@ -47,3 +66,13 @@ first-difference (x ∷ xs) (y ∷ ys) = if eqb x y then suc (first-difference x
 -- No number differs, of lists equally long.
 unfoldable pub agree : List ℕ → List ℕ → Bool
 agree xs ys = eqb (first-difference xs ys) (length xs)
+
+-- Whether a file's answer is what a case has, with a buffer of so many numbers: the number returned, the answer's numbers, and the final buffer.
+unfoldable pub replays : (head file stored : List ℕ) (room : ℕ) → Bool
+replays head file stored room =
+    let filled = numbers stored 0 (getD head fill-at 0) room in
+    let expected = numbers stored (getD head stored-at 0) (getD head behind-at 0) room in
+    let a = answer file (length filled) in
+    agree (take 1 (drop answer-at head)) (answer-code a ∷ [])
+    && agree (take answer-length (drop answer-at head)) (put-front (answer-numbers a) (replicate answer-length 0))
+    && agree expected (final-buffer file filled)

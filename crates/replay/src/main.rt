@@ -15,7 +15,7 @@ use libc::STDIN_FILENO;
 ghost use mathlib.Core.Path.{_≡_};
 ghost use Prim.Native.Nat.{_*_};
 ghost use lib.ListN.{getD, length};
-ghost use Rattle.replay.specs.Replay.{file-length, head-numbers, number-bytes, stored-at};
+ghost use Rattle.replay.specs.Replay.{file-length, head-numbers, number-bytes, replays, stored-at};
 
 // What stands at the front of a case, four bytes each: the lengths of the file and of the buffer, the number that the
 // buffer holds before, the answer, how many numbers of the final buffer follow the file, and the number behind them.
@@ -75,6 +75,7 @@ fn replay(
     expected: &mut [u32],
 ) -> bool
     requires { ⌜ (length (now head) ≡ head-numbers) × (length (now stored) ≡ number-bytes * getD (now head) stored-at 0) × (length (now tree) ≡ length (now expected)) ⌝ }
+    ensures { λ r. ⌜ r ≡ replays (now (head .entry)) (now (file .entry)) (now (stored .entry)) (length (now (tree .entry))) ⌝ }
 {
     put_numbers(stored, head[AT_STORED] as usize, head[AT_BEHIND], expected);
     put_numbers(stored, 0, head[AT_FILL], tree);

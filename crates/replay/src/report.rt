@@ -1,4 +1,5 @@
-// What `replay` prints.
+// What `replay` prints. No contract can speak of what is written to a file: a `print_` function returns nothing and says nothing, and the text that it
+// hands to `io::write_all` is said by the `put_` function above it.
 
 use libc::STDOUT_FILENO;
 use text::MOST_DIGITS;

@@ -7,5 +7,6 @@ pub mod Format
 pub mod Records
 pub mod Allowance
 pub mod RowRead
+pub mod WordSearch
 pub mod Laws
 pub mod Examples

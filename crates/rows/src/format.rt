@@ -1,8 +1,6 @@
 // The numbers of a file's format that requests of document 02 change, as one value.
 
-use crate::languages::C18;
-use crate::languages::CPP17;
-use crate::languages::FORTRAN2018;
+use crate::languages;
 ghost use mathlib.Core.Path.{_≡_};
 ghost use Prim.Native.Nat.{_+_, _*_, _≤_};
 ghost use Rattle.rows.specs.Format.{at-span, bytes-of, format, token-length};
@@ -42,9 +40,9 @@ pub fn current() -> Format
         greatest_flag: 1,
         means_254: StandIn::Nothing,
         means_255: StandIn::StandsFor {
-            c: C18,
-            cpp: CPP17,
-            fortran: FORTRAN2018,
+            c: languages::C18,
+            cpp: languages::CPP17,
+            fortran: languages::FORTRAN2018,
         },
     }
 }

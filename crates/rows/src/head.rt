@@ -5,12 +5,7 @@ use crate::bytes::four_bytes;
 use crate::bytes::two_bytes;
 use crate::format::Format;
 use crate::format::StandIn;
-use crate::languages::C;
-use crate::languages::C23;
-use crate::languages::CPP;
-use crate::languages::CPP23;
-use crate::languages::FORTRAN;
-use crate::languages::FORTRAN2023;
+use crate::languages;
 ghost use mathlib.Core.Path.{_≡_};
 ghost use Rattle.rows.specs.Format.{asks-structure, declared, meant, stands-for};
 ghost use Rattle.rows.specs.Records.{head};
@@ -61,14 +56,14 @@ pub enum Meaning {
 fn declared_standards(language: u8) -> u8
     ensures { λ r. ⌜ r ≡ declared language ⌝ }
 {
-    if language == C {
-        return C23 + 1;
+    if language == languages::C {
+        return languages::C23 + 1;
     }
-    if language == CPP {
-        return CPP23 + 1;
+    if language == languages::CPP {
+        return languages::CPP23 + 1;
     }
-    if language == FORTRAN {
-        return FORTRAN2023 + 1;
+    if language == languages::FORTRAN {
+        return languages::FORTRAN2023 + 1;
     }
     0
 }
@@ -79,13 +74,13 @@ fn stands_for(language: u8, number: StandIn) -> Meaning
     let StandIn::StandsFor { c, cpp, fortran } = number else {
         return Meaning::Unknown;
     };
-    if language == C {
+    if language == languages::C {
         return Meaning::Means(c);
     }
-    if language == CPP {
+    if language == languages::CPP {
         return Meaning::Means(cpp);
     }
-    if language == FORTRAN {
+    if language == languages::FORTRAN {
         return Meaning::Means(fortran);
     }
     Meaning::Unknown

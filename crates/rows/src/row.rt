@@ -5,11 +5,7 @@ use crate::format::Format;
 use crate::format::token_length;
 use crate::token::TokenRecord;
 use crate::token::token_at;
-use crate::words::FIRSTS;
-use crate::words::NUMBERS;
-use crate::words::SHORTER;
-use crate::words::STARTS;
-use crate::words::TEXTS;
+use crate::words;
 use crate::words::number_of_word;
 ghost use mathlib.Core.Path.{_≡_};
 ghost use Rattle.rows.specs.RowRead.{Reads, ReadsRecords, Room};
@@ -41,11 +37,11 @@ pub fn read_records(
     requires { ⌜ Room (now file) most (now kinds) (now words) (now places) ⌝ }
     ensures { λ r. ⌜ ReadsRecords format (now (file .entry)) begin most (now (kinds .entry)) (now (words .entry)) (now (places .entry)) r (now (kinds .exit)) (now (words .exit)) (now (places .exit)) ⌝ }
 {
-    let texts = TEXTS;
-    let numbers = NUMBERS;
-    let firsts = FIRSTS;
-    let starts = STARTS;
-    let shorter = SHORTER;
+    let texts = words::TEXTS;
+    let numbers = words::NUMBERS;
+    let firsts = words::FIRSTS;
+    let starts = words::STARTS;
+    let shorter = words::SHORTER;
     let plain = token_length(format);
     let mut at = begin;
     let mut count: usize = 0;

@@ -9,8 +9,7 @@ use crate::format::SpanWidth;
 use crate::format::span_bytes;
 use crate::format::token_length;
 use crate::head::AT_KIND;
-use crate::kinds::END;
-use crate::kinds::IDENTIFIER;
+use crate::kinds;
 ghost use mathlib.Core.Path.{_≡_};
 ghost use Prim.Native.Nat.{_+_, _≤_};
 ghost use lib.ListN.{length};
@@ -79,7 +78,7 @@ fn length_fits(format: Format, file: &[u8], at: usize, kind: usize, size: usize)
     requires { ⌜ (at + token-length format ≤ length (now file)) × (kind ≡ kind-at format (now file) at) × (size ≡ length-at format (now file) at) ⌝ }
     ensures { λ r. ⌜ r ≡ length-fits format (now (file .entry)) at ⌝ }
 {
-    if kind == (IDENTIFIER as usize) {
+    if kind == (kinds::IDENTIFIER as usize) {
         return word_fits(format, file, at, size);
     }
     size == token_length(format)
@@ -97,7 +96,7 @@ pub fn token_at(format: Format, file: &[u8], at: usize) -> TokenRecord
         return TokenRecord::Malformed;
     }
     let kind = two_bytes(file, at + AT_KIND);
-    if (END as usize) < kind {
+    if (kinds::END as usize) < kind {
         return TokenRecord::Malformed;
     }
     let width = format.span_width;

@@ -2,56 +2,12 @@
 
 use crate::bytes::wide;
 use crate::bytes::wide_two;
-use crate::word_numbers::ATOMIC;
-use crate::word_numbers::BIT_INT;
-use crate::word_numbers::BOOL;
-use crate::word_numbers::C_BOOL;
-use crate::word_numbers::C_COMPLEX;
-use crate::word_numbers::CHAR;
-use crate::word_numbers::CHAR8_T;
-use crate::word_numbers::CHAR16_T;
-use crate::word_numbers::CHAR32_T;
-use crate::word_numbers::CLASS;
-use crate::word_numbers::COMPLEX;
-use crate::word_numbers::CONST;
-use crate::word_numbers::DECIMAL32;
-use crate::word_numbers::DECIMAL64;
-use crate::word_numbers::DECIMAL128;
-use crate::word_numbers::DECLTYPE;
-use crate::word_numbers::DOUBLE;
-use crate::word_numbers::ENUM;
-use crate::word_numbers::FLOAT;
-use crate::word_numbers::GNU_RESTRICT;
-use crate::word_numbers::GNU_RESTRICT_CLOSED;
-use crate::word_numbers::GNU_TYPEOF;
-use crate::word_numbers::GNU_TYPEOF_CLOSED;
-use crate::word_numbers::IMAGINARY;
-use crate::word_numbers::INT;
-use crate::word_numbers::LONG;
-use crate::word_numbers::NO_WORD;
-use crate::word_numbers::NOEXCEPT;
-use crate::word_numbers::OTHER_CASE;
-use crate::word_numbers::PRECISION;
-use crate::word_numbers::RESTRICT;
-use crate::word_numbers::SHORT;
-use crate::word_numbers::SIGNED;
-use crate::word_numbers::STRUCT;
-use crate::word_numbers::TRANSACTION_SAFE;
-use crate::word_numbers::TYPE;
-use crate::word_numbers::TYPENAME;
-use crate::word_numbers::TYPEOF;
-use crate::word_numbers::TYPEOF_UNQUAL;
-use crate::word_numbers::UNION;
-use crate::word_numbers::UNSIGNED;
-use crate::word_numbers::VOID;
-use crate::word_numbers::VOLATILE;
-use crate::word_numbers::WCHAR_T;
+use crate::word_numbers;
 ghost use mathlib.Core.Path.{_≡_};
 ghost use Prim.Native.Nat.{_+_, _≤_};
 ghost use lib.ListN.{drop, length, take};
 ghost use Rattle.rows.specs.Words.{lower, word-number};
-ghost use Rattle.rows.specs.Laws.KnownWords.{compared, texts, texts-length};
-ghost use Rattle.rows.specs.Laws.KnownTable.{Tables};
+ghost use Rattle.rows.specs.WordSearch.{Tables, compared, texts, texts-length};
 
 const KNOWN_WORDS: usize = 42;
 
@@ -78,48 +34,48 @@ pub const TEXTS: [u8; TEXTS_LENGTH] =
 
 // Their numbers, in that order.
 pub const NUMBERS: [u8; KNOWN_WORDS] = [
-    INT,
-    VOID,
-    BOOL,
-    CHAR,
-    LONG,
-    ENUM,
-    TYPE,
-    C_BOOL,
-    FLOAT,
-    SHORT,
-    CONST,
-    UNION,
-    CLASS,
-    DOUBLE,
-    SIGNED,
-    TYPEOF,
-    STRUCT,
-    WCHAR_T,
-    CHAR8_T,
-    ATOMIC,
-    BIT_INT,
-    COMPLEX,
-    CHAR16_T,
-    CHAR32_T,
-    UNSIGNED,
-    C_COMPLEX,
-    VOLATILE,
-    RESTRICT,
-    NOEXCEPT,
-    DECLTYPE,
-    GNU_TYPEOF,
-    TYPENAME,
-    PRECISION,
-    DECIMAL32,
-    DECIMAL64,
-    IMAGINARY,
-    GNU_RESTRICT,
-    GNU_TYPEOF_CLOSED,
-    DECIMAL128,
-    GNU_RESTRICT_CLOSED,
-    TYPEOF_UNQUAL,
-    TRANSACTION_SAFE,
+    word_numbers::INT,
+    word_numbers::VOID,
+    word_numbers::BOOL,
+    word_numbers::CHAR,
+    word_numbers::LONG,
+    word_numbers::ENUM,
+    word_numbers::TYPE,
+    word_numbers::C_BOOL,
+    word_numbers::FLOAT,
+    word_numbers::SHORT,
+    word_numbers::CONST,
+    word_numbers::UNION,
+    word_numbers::CLASS,
+    word_numbers::DOUBLE,
+    word_numbers::SIGNED,
+    word_numbers::TYPEOF,
+    word_numbers::STRUCT,
+    word_numbers::WCHAR_T,
+    word_numbers::CHAR8_T,
+    word_numbers::ATOMIC,
+    word_numbers::BIT_INT,
+    word_numbers::COMPLEX,
+    word_numbers::CHAR16_T,
+    word_numbers::CHAR32_T,
+    word_numbers::UNSIGNED,
+    word_numbers::C_COMPLEX,
+    word_numbers::VOLATILE,
+    word_numbers::RESTRICT,
+    word_numbers::NOEXCEPT,
+    word_numbers::DECLTYPE,
+    word_numbers::GNU_TYPEOF,
+    word_numbers::TYPENAME,
+    word_numbers::PRECISION,
+    word_numbers::DECIMAL32,
+    word_numbers::DECIMAL64,
+    word_numbers::IMAGINARY,
+    word_numbers::GNU_RESTRICT,
+    word_numbers::GNU_TYPEOF_CLOSED,
+    word_numbers::DECIMAL128,
+    word_numbers::GNU_RESTRICT_CLOSED,
+    word_numbers::TYPEOF_UNQUAL,
+    word_numbers::TRANSACTION_SAFE,
 ];
 
 // Their first bytes in lower case.
@@ -251,10 +207,10 @@ pub fn number_of_word(
 {
     let size = word.len();
     if size == 0 {
-        return NO_WORD;
+        return word_numbers::NO_WORD;
     }
     if LONGEST_KNOWN < size {
-        return NO_WORD;
+        return word_numbers::NO_WORD;
     }
     let first = lower_case(word[0]);
     let end = wide(shorter[size + 1]);
@@ -268,11 +224,11 @@ pub fn number_of_word(
         let comparison = compare(word, known, begin);
         match comparison {
             Comparison::Exact => return numbers[row],
-            Comparison::OtherCase => return numbers[row] + OTHER_CASE,
+            Comparison::OtherCase => return numbers[row] + word_numbers::OTHER_CASE,
             Comparison::Different => {
                 row += 1;
             }
         }
     }
-    NO_WORD
+    word_numbers::NO_WORD
 }

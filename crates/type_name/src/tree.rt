@@ -10,7 +10,7 @@ use rows::answer::Answer;
 use rows::answer::TypeNameError;
 use rows::head::Head;
 use rows::head::asks_structure;
-use rows::languages::CPP;
+use rows::languages;
 use structure::moves::Verdict;
 use structure::syntax::validate_structured_syntax;
 ghost use mathlib.Core.Path.{_≡_};
@@ -95,5 +95,5 @@ pub fn read_tree(language: u8, kinds: &[u8], tree: &mut [u32], allowance: u32) -
         Prescanned::Refused(error) => return Parsed::Refused { error, steps: 0 },
         Prescanned::Passed => {}
     }
-    parse(kinds, language == CPP, tree, allowance)
+    parse(kinds, language == languages::CPP, tree, allowance)
 }

@@ -53,7 +53,7 @@ pub const KNOWN_WORDS: [&str; 42] = [
 ];
 
 /// How many of the known words are builtin type words.
-const BUILTIN: usize = 20;
+pub const BUILTIN: usize = 20;
 
 pub fn words(random: &mut Random) -> Draft {
     let language = *random.pick(&LANGUAGES);

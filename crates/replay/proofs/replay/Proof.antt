@@ -1,15 +1,18 @@
--- `replay` is safe. Assumes nothing.
+-- `replay` meets its contract. Assumes nothing.
 use native.Mathlib.Omega.{arith}
-use mathlib.Core.Path.{sym, _∙_}
+use mathlib.Core.Path.{refl, sym, ap, _∙_}
 use borrow.Author.Needs.{needs}
+use borrow.Author.Tests.{not-true, not-false}
+use Rattle.replay.specs.Replay.{numbers}
+use Rattle.replay.specs.Laws.Replaying.{Answered, returned-differs, answer-differs, buffer-compared}
 use borrow.Author.Needs.{needs}
 use Rattle.replay.proofs.replay.Statement.{statement}
 use Rattle.replay.proofs.replay.Tie as tie
 use Rattle.replay.proofs.replay.Reads as reads
 use Rattle.replay.proofs.replay.Lts as lts
+use Rattle.exports.proofs.read.type_name_read.Reads as type-name-read-reads
 use Rattle.replay.proofs.compare.agree.Reads as agree-reads
 use Rattle.replay.proofs.numbers.put_numbers.Reads as put-numbers-reads
-use Rattle.exports.proofs.read.type_name_read.Reads as type-name-read-reads
 
 shared-slice-read-put-numbers : tie.Need-shared-slice-read-put-numbers
 shared-slice-read-put-numbers c = search needs
@@ -63,7 +66,7 @@ same-length-2 : tie.Need-same-length-2
 same-length-2 c = search needs
 
 returns : tie.Need-returns
-returns c = search needs
+returns c = returned-differs (record { filled-is = c .before .before .before .before .before .before .before .before .before .before .before .before .before .put-numbers2 .ensures; expected-is = c .before .before .before .before .before .before .before .before .before .before .before .before .before .before .before .before .before .before .put-numbers .ensures ∙ ap (numbers _ _ _) (sym (c .before .before .before .before .before .before .before .before .before .before .before .before .before .before .before .before .before .before .before .before .before .before .before .before .before .before .before .pre .2)); code-is = c .before .before .before .before .before .before .before .before .type-name-read .ensures .0; given-is = c .before .before .before .before .before .before .before .before .type-name-read .ensures .1 .0; after-is = c .before .before .before .before .before .before .before .before .type-name-read .ensures .1 .1 .buffered }) (c .before .agree .ensures) (not-true _ (c .if1 .taken))
 
 slice-aggregate-agree-3 : tie.Need-slice-aggregate-agree-3
 slice-aggregate-agree-3 c = search needs
@@ -90,7 +93,7 @@ same-length-4 : tie.Need-same-length-4
 same-length-4 c = search needs
 
 returns-2 : tie.Need-returns-2
-returns-2 c = search needs
+returns-2 c = answer-differs (record { filled-is = c .before .before .before .before .before .before .before .before .before .before .before .before .before .before .before .before .before .before .put-numbers2 .ensures; expected-is = c .before .before .before .before .before .before .before .before .before .before .before .before .before .before .before .before .before .before .before .before .before .before .before .put-numbers .ensures ∙ ap (numbers _ _ _) (sym (c .before .before .before .before .before .before .before .before .before .before .before .before .before .before .before .before .before .before .before .before .before .before .before .before .before .before .before .before .before .before .before .before .pre .2)); code-is = c .before .before .before .before .before .before .before .before .before .before .before .before .before .type-name-read .ensures .0; given-is = c .before .before .before .before .before .before .before .before .before .before .before .before .before .type-name-read .ensures .1 .0; after-is = c .before .before .before .before .before .before .before .before .before .before .before .before .before .type-name-read .ensures .1 .1 .buffered }) (c .before .before .before .before .before .before .agree .ensures) (not-false _ (c .before .before .before .before .before .if1 .left)) (c .before .agree2 .ensures) (not-true _ (c .if2 .taken))
 
 slice-aggregate-agree-5 : tie.Need-slice-aggregate-agree-5
 slice-aggregate-agree-5 c = search needs
@@ -105,7 +108,7 @@ same-length-6 : tie.Need-same-length-6
 same-length-6 c = search needs
 
 returns-3 : tie.Need-returns-3
-returns-3 c = search needs
+returns-3 c = buffer-compared (record { filled-is = c .before .before .before .before .before .before .before .before .before .before .before .before .before .before .before .before .before .before .before .before .before .before .put-numbers2 .ensures; expected-is = c .before .before .before .before .before .before .before .before .before .before .before .before .before .before .before .before .before .before .before .before .before .before .before .before .before .before .before .put-numbers .ensures ∙ ap (numbers _ _ _) (sym (c .before .before .before .before .before .before .before .before .before .before .before .before .before .before .before .before .before .before .before .before .before .before .before .before .before .before .before .before .before .before .before .before .before .before .before .before .pre .2)); code-is = c .before .before .before .before .before .before .before .before .before .before .before .before .before .before .before .before .before .type-name-read .ensures .0; given-is = c .before .before .before .before .before .before .before .before .before .before .before .before .before .before .before .before .before .type-name-read .ensures .1 .0; after-is = c .before .before .before .before .before .before .before .before .before .before .before .before .before .before .before .before .before .type-name-read .ensures .1 .1 .buffered }) (c .before .before .before .before .before .before .before .before .before .before .agree .ensures) (not-false _ (c .before .before .before .before .before .before .before .before .before .if1 .left)) (c .before .before .before .before .before .agree2 .ensures) (not-false _ (c .before .before .before .before .if2 .left)) (c .agree3 .ensures)
 
 pub replay-spec : {M : Type 1} → statement M
 replay-spec =

@@ -13,8 +13,9 @@ use lib.Dec.{T, leb, ltb, eqb, leb→le}
 use Rattle.rows.specs.Laws.Tests.{and-false}
 use Rattle.rows.specs.Notation.{if_then_else_}
 use Rattle.rows.specs.Words.{Known, known, bytes, same-through, same-exactly, same-ignoring-case, lower, number-among, word-number, no-word, other-case}
-use Rattle.rows.specs.Laws.KnownWords.{compared, byte-differs, nothing-yet, start, of-length, groups, ordered, spellings, texts, texts-long, texts-length}
-use Rattle.rows.specs.Laws.KnownTable.{piece, start-suc, start-le, shorter, shorter-at, starts, starts-at, numbers, firsts, no-entry, ordered-long, rows-of, groups-long, group-rows, rows-cons, rows-end, last-row}
+use Rattle.rows.specs.WordSearch.{compared, start, of-length, groups, ordered, spellings, texts, texts-length, numbers, firsts, starts, shorter}
+use Rattle.rows.specs.Laws.KnownWords.{byte-differs, nothing-yet, texts-long}
+use Rattle.rows.specs.Laws.KnownTable.{piece, start-suc, start-le, shorter-at, starts-at, no-entry, ordered-long, rows-of, groups-long, group-rows, rows-cons, rows-end, last-row}
 use Rattle.rows.specs.declared.words.Comparison.{Comparison}
 use Rattle.rows.specs.declared.words.Comparison.the-variants.{Exact, OtherCase, Different}
 

@@ -1,4 +1,4 @@
--- The tables by which code finds the known words of one length, and what a search among them gives.
+-- What the tables hold by which code finds the known words of one length.
 -- Assumes nothing.
 use Prim.Native.Nat.{ℕ, zero, suc, _+_, _-_, _≤_, _<_}
 use mathlib.Core.Path.{_≡_, refl, sym, ap, subst, _∙_}
@@ -14,7 +14,7 @@ use lib.Seq.{getD-append-seam, getD-append-add, drop-append-add, take-append-sea
 use Rattle.rows.specs.Notation.{if_then_else_}
 use Rattle.rows.specs.Laws.Tests.{by-if}
 use Rattle.rows.specs.Words.{Known, known, bytes, same-through, same-exactly, same-ignoring-case, lower, number-among, word-number, no-word, other-case}
-use Rattle.rows.specs.Laws.KnownWords.{compared, joined, start, of-length, below, groups, ordered, spellings, texts, texts-long}
+use Rattle.rows.specs.WordSearch.{joined, start, of-length, below, groups, ordered, spellings, shorter, starts}
 use Rattle.rows.specs.declared.words.Comparison.{Comparison}
 use Rattle.rows.specs.declared.words.Comparison.the-variants.{Exact, OtherCase, Different}
 
@@ -64,31 +64,6 @@ pub tabled : (f : ℕ → ℕ) (m n : ℕ) → n < m → f 0 ≡ 0 → getD (map
 tabled f m n p e = ap (λ (z : ℕ). getD (map f (below m)) n z) (sym e) ∙ List·getD-map f (below m) n 0 ∙ ap f (below-at m n p)
 
 -- ---- the tables of code
-
-unfoldable pub shorter : List ℕ
-unfolding start groups below
-shorter = map (λ n. start groups n) (below 18)
-
-unfoldable pub starts : List ℕ
-unfolding start spellings below
-starts = map (λ r. start spellings r) (below 42)
-
-unfoldable pub numbers : List ℕ
-unfolding ordered
-numbers = map (λ (k : Known). k .number) ordered
-
--- Their first bytes in lower case.
-unfoldable pub firsts : List ℕ
-unfolding spellings lower
-firsts = map (λ (w : List ℕ). lower (getD w 0 0)) spellings
-
--- What is lent to the search.
-pub record Tables (known′ numbers′ firsts′ starts′ shorter′ : List ℕ) : Type 0 where
-  pub known-are : known′ ≡ texts
-  pub numbers-are : numbers′ ≡ numbers
-  pub firsts-are : firsts′ ≡ firsts
-  pub starts-are : starts′ ≡ starts
-  pub shorter-are : shorter′ ≡ shorter
 
 pub shorter-at : (n : ℕ) → n < 18 → getD shorter n 0 ≡ start groups n
 unfolding shorter

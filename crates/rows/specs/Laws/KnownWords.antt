@@ -1,4 +1,4 @@
--- The known words by length, as code searches them.
+-- A word compared with a known word byte by byte, as code does it.
 -- Assumes nothing.
 use Prim.Native.Nat.{ℕ, zero, suc, _+_, _-_, _≤_, _<_}
 use mathlib.Core.Path.{_≡_, refl, sym, ap, _∙_}
@@ -14,50 +14,8 @@ use borrow.Author.Tests.{eq-eqb, ne-eqb}
 use Rattle.rows.specs.Laws.Tests.{and-true, and-false}
 use Rattle.rows.specs.Notation.{if_then_else_}
 use Rattle.rows.specs.Words.{Known, known, bytes, same-through, same-exactly, same-ignoring-case, lower, number-among, word-number, no-word, other-case}
-use Rattle.rows.specs.declared.words.Comparison.{Comparison}
+use Rattle.rows.specs.WordSearch.{compared, texts, texts-length}
 use Rattle.rows.specs.declared.words.Comparison.the-variants.{Exact, OtherCase, Different}
-
-unfoldable pub compared : (w v : List ℕ) → Comparison
-compared w v = if same-exactly w v then Exact else if same-ignoring-case w v then OtherCase else Different
-
--- ---- lists put one after another
-
-unfoldable pub joined {ℓ} : {A : Type ℓ} → List (List A) → List A
-joined [] = []
-joined (xs ∷ xss) = xs ++ joined xss
-
--- Where list number r begins.
-unfoldable pub start {ℓ} : {A : Type ℓ} → List (List A) → ℕ → ℕ
-start xss zero = 0
-start [] (suc r) = 0
-start (xs ∷ xss) (suc r) = length xs + start xss r
-
--- ---- the known words, shorter ones first
-
-unfoldable pub of-length : ℕ → List Known → List Known
-unfolding bytes
-of-length n [] = []
-of-length n (k ∷ ks) = let rest = of-length n ks in if eqb (length (bytes (k .text))) n then k ∷ rest else rest
-
-unfoldable pub below : ℕ → List ℕ
-below zero = []
-below (suc n) = below n ++ n ∷ []
-
-unfoldable pub groups : List (List Known)
-unfolding of-length below known
-groups = map (λ n. of-length n known) (below 17)
-
-unfoldable pub ordered : List Known
-unfolding joined groups
-ordered = joined groups
-
-unfoldable pub spellings : List (List ℕ)
-unfolding ordered bytes
-spellings = map (λ (k : Known). bytes (k .text)) ordered
-
-unfoldable pub texts : List ℕ
-unfolding joined spellings
-texts = joined spellings
 
 -- ---- two words byte by byte
 
@@ -118,10 +76,6 @@ module _ (w v : List ℕ) (same-length : length v ≡ length w) where
       rw (which, all) refl
 
 -- ---- the text that begins at a place of `texts`
-
--- The bytes of all known words.
-abbrev pub texts-length : ℕ
-texts-length = 307
 
 pub texts-long : length texts ≡ texts-length
 unfolding texts

@@ -13,7 +13,7 @@ use Rattle.reader.specs.ReaderSays.{region-due}
 use Rattle.reader.specs.Laws.Tokens.{inside}
 use Rattle.reader.specs.Laws.Ahead.{down-deep}
 use Rattle.reader.specs.Laws.GroupWays.{GroupLoop, node-found, node-finds-so, group-told, group-begins, node-here, planned-so, group-ends, group-stops, group-node-stops, group-again}
-use Rattle.reader.specs.Laws.NodeWays.{past-cursor, list-read, list-failed, list-spent, started-so, node-spends, node-by-token, node-group, node-group-stops, node-list, node-no-list, node-list-spends}
+use Rattle.reader.specs.Laws.NodeWays.{past-cursor, list-read, list-failed, list-spent, started-so, plain-started, node-spends, node-by-token, node-group, node-group-stops, node-list, node-no-list, node-list-spends}
 use Rattle.reader.specs.Laws.ListWays.{ArgumentsLoop, NodesLoop, Ended, arguments-begin, nodes-begin, by-closed, by-empty, by-unterminated, ended-closed, ended-empty, ended-unterminated, closes-so, ends-so, list-deep, empty-first, unterminated, list-node-stops, nodes-again, argument-empty, arguments-again, arguments-closed, list-closed}
 use Prim.Native.Nat.{ℕ, _<_}
 use borrow.Fn.Kinds.{In}
@@ -103,10 +103,10 @@ parse-template-arguments-below t =
     parse-template-arguments.Pre
 
 abbrev parse-group-Inv-loop : parse-group-lts.InvT-loop
-parse-group-Inv-loop kinds cpp tree₀ end lists nesting now₀ word₀ nodes₀ tree now word nodes = GroupLoop cpp kinds tree₀ (region-of end) lists nesting now₀ tree now word nodes
+parse-group-Inv-loop kinds cpp tree₀ end lists nesting now₀ after-identifier₀ nodes₀ tree now after-identifier nodes = GroupLoop cpp kinds tree₀ (region-of end) lists nesting now₀ tree now after-identifier nodes
 
 abbrev parse-group-μ-loop : parse-group-lts.MeasureT-loop
-parse-group-μ-loop kinds cpp tree₀ end lists nesting now₀ word₀ nodes₀ tree now word nodes = length kinds - now .cursor
+parse-group-μ-loop kinds cpp tree₀ end lists nesting now₀ after-identifier₀ nodes₀ tree now after-identifier nodes = length kinds - now .cursor
 
 abbrev parse-group-calls : ℕ → parse-group-lts.Claims
 parse-group-calls t = (kind-at-reads.Asked, kind-at-reads.Learnt, group-step-reads.Asked, group-step-reads.Learnt, parse-node-below t, parse-node.Post)
@@ -335,7 +335,7 @@ parse-node-same-length : (t : ℕ) → parse-node-lts.Need-same-length (parse-no
 parse-node-same-length t c = omega arith
 
 parse-node-returns : (t : ℕ) → parse-node-lts.Need-returns (parse-node-calls t) (parse-node-at t) parse-node.Post
-parse-node-returns t c = node-by-token _ _ _ _ _ _ (started-so _ _ (c .before .before .before .before .before .before .kind-at .ensures) refl (c .before .before .before .before .before .is-plain .ensures .plain (c .before .before .before .before .if1 .taken))) (c .before .before .before .before .before .before .before .before .before .pre .1 .1) (c .before .before .parse-token .ensures)
+parse-node-returns t c = node-by-token _ _ _ _ _ _ (started-so _ _ (c .before .before .before .before .before .before .kind-at .ensures) refl (plain-started _ _ _ (c .before .before .before .before .before .is-plain .ensures) (c .before .before .before .before .if1 .taken))) (c .before .before .before .before .before .before .before .before .before .pre .1 .1) (c .before .before .parse-token .ensures)
 
 parse-node-parse-inner-requires : (t : ℕ) → parse-node-lts.Need-parse-inner-requires (parse-node-calls t) (parse-node-at t) parse-node.Post
 parse-node-parse-inner-requires t c κs = (omega arith, c .before .before .before .before .before .before .pre .1)
@@ -347,10 +347,10 @@ parse-node-returns-2 : (t : ℕ) → parse-node-lts.Need-returns-2 (parse-node-c
 parse-node-returns-2 t c = c .before .before .parse-inner .ensures
 
 abbrev parse-template-arguments-Inv-nodes : parse-template-arguments-lts.InvT-nodes
-parse-template-arguments-Inv-nodes kinds cpp tree₀ lists nesting now₀ nodes first head word₀ inner₀ tree now word inner = NodesLoop cpp kinds lists nesting head tree₀ now₀ tree now word inner
+parse-template-arguments-Inv-nodes kinds cpp tree₀ lists nesting now₀ nodes first head after-identifier₀ inner₀ tree now after-identifier inner = NodesLoop cpp kinds lists nesting head tree₀ now₀ tree now after-identifier inner
 
 abbrev parse-template-arguments-μ-nodes : parse-template-arguments-lts.MeasureT-nodes
-parse-template-arguments-μ-nodes kinds cpp tree₀ lists nesting now₀ nodes first head word₀ inner₀ tree now word inner = length kinds - now .cursor
+parse-template-arguments-μ-nodes kinds cpp tree₀ lists nesting now₀ nodes first head after-identifier₀ inner₀ tree now after-identifier inner = length kinds - now .cursor
 
 abbrev parse-template-arguments-Inv-arguments : parse-template-arguments-lts.InvT-arguments
 parse-template-arguments-Inv-arguments kinds cpp tree₀ lists nesting now₀ nodes₀ tree now nodes = ArgumentsLoop cpp kinds tree₀ lists nesting now₀ tree now nodes

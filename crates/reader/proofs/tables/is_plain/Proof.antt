@@ -1,9 +1,9 @@
 -- `is_plain` meets its contract. Assumes nothing.
-use mathlib.Core.Path.{_≡_, refl}
-use Prim.Native.Nat.{ℕ}
-use native.Mathlib.Omega.{arith}
+use mathlib.Core.Path.{refl}
 use borrow.Author.Needs.{needs}
-use Rattle.reader.specs.Laws.NodeWays.{started-so}
+use denote.Enum.Declared.{tagOf}
+use Rattle.reader.proofs.tables.Start.{the-type}
+use Rattle.reader.specs.Laws.NodeWays.{by-token, by-no-token}
 use borrow.Author.Needs.{needs}
 use Rattle.reader.proofs.tables.is_plain.Statement.{statement}
 use Rattle.reader.proofs.tables.is_plain.Tie as tie
@@ -18,10 +18,10 @@ enum-told : tie.Need-enum-told
 enum-told c = search needs
 
 returns : tie.Need-returns
-returns c = record { plain = λ _. started-so _ _ refl (c .enum-told .given .1) (c .before .before .node-start .ensures) }
+returns c = by-token _ _ _ (c .before .before .node-start .ensures) (c .enum-told .given .1)
 
 returns-2 : tie.Need-returns-2
-returns-2 c = record { plain = λ e. let z : _≡_ {A = ℕ} 0 1 = cc in absurd (omega arith) }
+returns-2 c = by-no-token _ _ _ (c .before .node-start .ensures) (tagOf the-type) refl (c .match .keys2)
 
 pub is-plain-spec : {M : Type 1} → statement M
 is-plain-spec = tie.close (tie.spec node-start-requires enum-told returns returns-2)

@@ -5,8 +5,7 @@ use native.Mathlib.Omega.{arith}
 use borrow.Author.Needs.{needs}
 use lib.ListN.{length, length-set}
 use Rattle.rows.specs.Laws.Tokens.{formed-fits}
-use Rattle.rows.specs.Laws.KnownWords.{texts}
-use Rattle.rows.specs.Laws.KnownTable.{numbers, firsts, starts, shorter}
+use Rattle.rows.specs.WordSearch.{texts, numbers, firsts, starts, shorter}
 use Rattle.rows.specs.Laws.RowLoop.{RowLoop, loop-begins, loop-full, loop-malformed, loop-token, loop-ends}
 use Rattle.rows.proofs.row.read_records.Statement.{statement}
 use Rattle.rows.proofs.row.read_records.Tie as tie

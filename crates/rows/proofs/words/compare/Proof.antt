@@ -5,7 +5,8 @@ use mathlib.Core.Bool.{true, false}
 use native.Mathlib.Omega.{arith}
 use lib.ListN.{length, take, drop}
 use Rattle.rows.specs.Words.{lower}
-use Rattle.rows.specs.Laws.KnownWords.{SoFar, nothing-yet, texts, text-differs, text-equal, text-in-other-case, text-ended}
+use Rattle.rows.specs.WordSearch.{texts}
+use Rattle.rows.specs.Laws.KnownWords.{SoFar, nothing-yet, text-differs, text-equal, text-in-other-case, text-ended}
 use Rattle.rows.proofs.words.compare.Statement.{statement}
 use Rattle.rows.proofs.words.compare.Tie as tie
 use Rattle.rows.proofs.words.compare.Reads as reads
