@@ -22,7 +22,7 @@ pub const LIST_NODE: u32 = 3;
 
 pub const ARGUMENT_NODE: u32 = 4;
 
-fn wide(number: u32) -> usize
+pub fn wide(number: u32) -> usize
     ensures { λ r. ⌜ r ≡ number ⌝ }
     ensures small { λ r. ⌜ r < 2 ^ 32 ⌝ }
 {

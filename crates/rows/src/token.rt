@@ -29,7 +29,7 @@ pub enum TokenRecord {
 }
 
 // Every byte may stand in a word. All are tested, even behind one that may not: so the compiler tests many at once.
-fn is_word(word: &[u8]) -> bool
+pub fn is_word(word: &[u8]) -> bool
     ensures { λ r. ⌜ r ≡ in-range (now (word .entry)) ⌝ }
 {
     let mut fits = true;

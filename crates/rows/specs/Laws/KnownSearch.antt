@@ -21,7 +21,7 @@ use Rattle.rows.specs.declared.words.Comparison.the-variants.{Exact, Oth
 
 -- ---- words of another length are not the same
 
-lengths-differ : (fold : ℕ → ℕ) (w v : List ℕ) → (length w ≡ length v → ⊥) → same-through fold w v ≡ false
+pub lengths-differ : (fold : ℕ → ℕ) (w v : List ℕ) → (length w ≡ length v → ⊥) → same-through fold w v ≡ false
 unfolding same-through
 lengths-differ fold [] [] d = absurd (d refl)
 lengths-differ fold [] (c ∷ v) d = refl

@@ -29,7 +29,7 @@ pub nothing-yet : (w v : List ℕ) → SoFar w v true 0
 nothing-yet w v = record { inside = omega arith; ignoring = refl; exactly = refl }
 
 -- the first bytes of what is left
-through-at : (fold : ℕ → ℕ) (w v : List ℕ) (i : ℕ) → i < length w → i < length v
+pub through-at : (fold : ℕ → ℕ) (w v : List ℕ) (i : ℕ) → i < length w → i < length v
     → same-through fold (drop i w) (drop i v) ≡ (eqb (fold (getD w i 0)) (fold (getD v i 0)) && same-through fold (drop (i + 1) w) (drop (i + 1) v))
 unfolding same-through
 through-at fold w v i p q = rw (drop-cons w i 0 p, drop-cons v i 0 q, add-one) refl

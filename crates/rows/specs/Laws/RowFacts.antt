@@ -1,6 +1,6 @@
 -- What holds of the tokens that are read from a file, by one induction over its records. Assumes nothing.
 use Prim.Native.Nat.{ℕ, zero, suc, _+_, _-_, _≤_, _<_}
-use mathlib.Core.Path.{_≡_, refl, subst}
+use mathlib.Core.Path.{_≡_, refl, sym, subst}
 use mathlib.Core.Bool.{Bool, true, false, not}
 use mathlib.Core.List.{List, [], _∷_}
 use native.Mathlib.Omega.{arith}
@@ -9,9 +9,9 @@ use lib.Dec.{T, leb, nleb→lt}
 use Rattle.rows.specs.Kinds.{Identifier, End}
 use Rattle.rows.specs.Format.{token-length}
 use Rattle.rows.specs.declared.format.Format.{Format}
-use Rattle.rows.specs.Records.{RowToken, Tokens, malformed, tokens, before-tokens, Row, refused, row, found, word-at, length-at, after-record, tokens-from, to-end, records-from}
+use Rattle.rows.specs.Records.{RowToken, Tokens, malformed, tokens, before-tokens, Row, refused, row, found, word-at, word-in, length-at, after-record, tokens-from, to-end, records-from}
 use Rattle.rows.specs.Laws.Tests.{by-if}
-use Rattle.rows.specs.Laws.Tokens.{formed-fits}
+use Rattle.rows.specs.Laws.Tokens.{formed-fits, word-there}
 use Rattle.rows.specs.declared.token.TokenRecord.{TokenRecord}
 use Rattle.rows.specs.declared.token.TokenRecord.the-variants.{Formed, Malformed}
 
@@ -137,3 +137,27 @@ module _ (f : Format) (file : List ℕ) where
 
   pub malformed-inside : (most at offset : ℕ) → tokens-from f file most at ≡ malformed offset → offset < length file
   malformed-inside most at offset e = subst (Inside file most) e (tokens-kept f file (Inside file) inside-kept most at)
+
+-- ---- a token's word is the one found at its place
+
+abbrev pub WordsFound : (f : Format) (file : List ℕ) → List RowToken → Type 0
+WordsFound f file [] = Unit {0}
+WordsFound f file (t ∷ ts) = (word-in f file (t .place) (found f file (t .place)) ≡ t .word) × WordsFound f file ts
+
+abbrev Words : (f : Format) (file : List ℕ) (n : ℕ) → Tokens → Type 0
+Words f file n (malformed offset) = Unit {0}
+Words f file n (tokens ts next) = WordsFound f file ts
+
+module _ (f : Format) (file : List ℕ) where
+  words-kept : Kept f file (Words f file)
+  unfolding before-tokens
+  words-kept = record { of-none = λ n at. tt; of-malformed = λ n at l. tt; of-token = before }
+    where
+      before : (n at k size : ℕ) → found f file at ≡ Formed k size → (r : Tokens) → Words f file n r → Words f file (suc n) (before-tokens (token-there f file at k) r)
+      before n at k size e (malformed offset) p = tt
+      before n at k size e (tokens ts next) p = (sym (word-there f file at k size e), p)
+
+  -- "The word is handed on as that part of the caller's file": what `word` gives at a token's place.
+  pub words-found : (most at : ℕ) (ts : List RowToken) → records-from f file most at ≡ row ts → WordsFound f file ts
+  unfolding records-from
+  words-found most at = end-row f file (WordsFound f file) (tokens-from f file most at) (λ ts next e. subst (Words f file most) e (tokens-kept f file (Words f file) words-kept most at))
