@@ -1,0 +1,11 @@
+pub mod Overlaps
+pub mod Items
+pub mod Stand
+pub mod Meeting
+pub mod Tables
+pub mod Pairs
+pub mod Showing
+pub mod Matching
+pub mod Rows
+pub mod MatchLoop
+pub mod Winners

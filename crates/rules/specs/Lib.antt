@@ -1,0 +1,9 @@
+pub mod Rules
+pub mod Seen
+pub mod RowSeen
+pub mod RuleTable
+pub mod Overlaps
+pub mod ItemsStand
+pub mod TableStands
+pub mod Laws
+pub mod Examples
