@@ -8,7 +8,8 @@ use lib.ListN.{replicate}
 use Rattle.rows.specs.Kinds.{Star}
 use Rattle.rules.specs.Rules.{Node, word-node, kind-node, group-node, list-node, Item, word, kind, group, list, any, Rule, Winner, no-winner, wins, winner, good-word, good-kind}
 use Rattle.rules.specs.RuleTable.{RuleFound, no-rule, a-rule, TableFound, no-table, a-table, table-of, rules-from, rule-at, rule-head, rule-length, items-from, rest-at, item-at, word-item, kind-item, with-item, with-rule, front, item-bytes}
-use Rattle.rules.specs.Overlaps.{shown, items-bytes, rules-meet}
+use Rattle.rules.specs.Overlaps.{shown, items-bytes}
+use Rattle.rules.specs.Meeting.{rules-meet}
 use Rattle.rows.specs.Records.{little-endian, in-range}
 
 -- The table `A list | any rest | rest | int`, by its bytes.

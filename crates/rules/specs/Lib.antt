@@ -3,6 +3,7 @@ pub mod Seen
 pub mod RowSeen
 pub mod RuleTable
 pub mod Overlaps
+pub mod Meeting
 pub mod ItemsStand
 pub mod TableStands
 pub mod Laws

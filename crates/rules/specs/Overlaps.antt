@@ -3,12 +3,11 @@
 use Prim.Native.Nat.{ℕ, _+_, _*_, _≤_, _<_}
 use mathlib.Core.Path.{_≡_}
 use mathlib.Core.Logic.{_⊎_}
-use mathlib.Core.Bool.{Bool, true, false, _&&_, _||_}
+use mathlib.Core.Bool.{Bool, true, false}
 use mathlib.Core.List.{List, [], _∷_, _++_}
 use lib.ListN.{length, getD}
 use lib.Dec.{T}
 use Rattle.rows.specs.Notation.{if_then_else_}
-use Rattle.rows.specs.Words.{same-exactly}
 use Rattle.rows.specs.Format.{longest-word}
 use Rattle.rules.specs.RuleTable.{most-items, after-two, item-bytes}
 use Rattle.rules.specs.Rules.{Node, Item, word, kind, group, list, any, Rule, good-nodes, matches}
@@ -52,26 +51,6 @@ items-bytes (i ∷ is) = item-bytes i ++ items-bytes is
 -- No sequence that is shown has more bytes: 16 words of 255.
 abbrev pub longest-shown : ℕ
 longest-shown = most-items * (after-two + longest-word)
-
--- ---- overlap as code finds it, item by item (that it is the same: specs/Laws/Overlaps.antt)
-
--- The items are the same, or one is "any one node".
-unfoldable pub agree : (i j : Item) → Bool
-unfolding is-any item-bytes same-exactly
-agree i j = is-any i || is-any j || same-exactly (item-bytes i) (item-bytes j)
-
--- Two lists of items, each with "the rest" behind it or not, match a sequence together.
-unfoldable pub meets : (rest rest′ : Bool) → (is js : List Item) → Bool
-unfolding agree
-meets r r′ [] [] = true
-meets r r′ [] (j ∷ js) = r
-meets r r′ (i ∷ is) [] = r′
-meets r r′ (i ∷ is) (j ∷ js) = agree i j && meets r r′ is js
-
--- Two rules do.
-unfoldable pub rules-meet : (r s : Rule) → Bool
-unfolding meets
-rules-meet r s = meets (r .rest) (s .rest) (r .items) (s .items)
 
 -- ---- the pairs, in order
 

@@ -7,7 +7,8 @@ use mathlib.Core.List.{List}
 use lib.ListN.{length, getD}
 use Rattle.rules.specs.Rules.{Rule, Winner, no-winner, wins}
 use Rattle.rules.specs.RuleTable.{RuleFound, no-rule, a-rule, no-table, a-table, at-items, table-of}
-use Rattle.rules.specs.Overlaps.{rule, rules-meet, FirstAfter, NoneAfter}
+use Rattle.rules.specs.Overlaps.{rule, FirstAfter, NoneAfter}
+use Rattle.rules.specs.Meeting.{rules-meet}
 use Rattle.rules.specs.ItemsStand.{RuleStands}
 use Rattle.rules.specs.declared.winner.WinnerFound.{WinnerFound}
 use Rattle.rules.specs.declared.winner.WinnerFound.the-variants as WinnerFound

@@ -7,7 +7,7 @@ use crate::items::same_bytes;
 ghost use mathlib.Core.Path.{_≡_};
 ghost use Prim.Native.Nat.{_≤_};
 ghost use lib.ListN.{length};
-ghost use Rattle.rules.specs.Overlaps.{agree, rules-meet};
+ghost use Rattle.rules.specs.Meeting.{agree, rules-meet};
 ghost use Rattle.rules.specs.ItemsStand.{OfItem, OfRules, SomeItem, SomeRule, counts};
 
 // An item that counts stands at a byte offset of a record that ends at `end`.

@@ -10,7 +10,8 @@ use borrow.Author.Tests.{le-ltb, lt-ltb, eq-eqb, ne-eqb}
 use Rattle.rows.specs.Words.{same-exactly}
 use Rattle.rules.specs.Rules.{Item, Rule}
 use Rattle.rules.specs.RuleTable.{RuleFound, no-rule, a-rule, most-items, any-byte, item-bytes, items-from}
-use Rattle.rules.specs.Overlaps.{is-any, agree, meets, rules-meet}
+use Rattle.rules.specs.Overlaps.{is-any}
+use Rattle.rules.specs.Meeting.{agree, meets, rules-meet}
 use Rattle.rules.specs.ItemsStand.{ItemStands, ItemsStand, SomeItem, RuleStands, SomeRule, OfItem, OfRules, counts}
 use Rattle.rules.specs.Laws.Stand.{rule-stands, stands-within, OneLeft, counts-more, counts-none, any-byte-there, item-moves}
 

@@ -13,7 +13,8 @@ use Rattle.rows.specs.Laws.Tests.{by-if}
 use Rattle.rows.specs.Words.{same-exactly, same-through}
 use Rattle.rules.specs.Rules.{Node, word-node, kind-node, group-node, list-node, Item, word, kind, group, list, any, Rule, good-word, good-kind, good-node, good-nodes, good-item, good-items, fits, matches-items, matches}
 use Rattle.rules.specs.RuleTable.{word-byte, kind-byte, group-byte, list-byte, any-byte, item-bytes}
-use Rattle.rules.specs.Overlaps.{Overlap, is-any, shown-item, shown, agree, meets, rules-meet}
+use Rattle.rules.specs.Overlaps.{Overlap, is-any, shown-item, shown}
+use Rattle.rules.specs.Meeting.{agree, meets, rules-meet}
 
 -- ---- tests
 

@@ -12,7 +12,8 @@ use lib.Dec.{T}
 use mir.Facts.{yes-and}
 use Rattle.rules.specs.Rules.{Item, Rule, good-item, good-items}
 use Rattle.rules.specs.RuleTable.{TableFound, no-table, a-table, at-items, table-of}
-use Rattle.rules.specs.Overlaps.{Overlap, rule, rules-meet, After, Pair, FirstAfter, NoneAfter}
+use Rattle.rules.specs.Overlaps.{Overlap, rule, After, Pair, FirstAfter, NoneAfter}
+use Rattle.rules.specs.Meeting.{rules-meet}
 use Rattle.rules.specs.ItemsStand.{ItemsStand, no-more, the-rest, one-more, RuleStands, SomeRule, OfRules}
 use Rattle.rules.specs.TableStands.{RulesStand, RulesRead, OfTable, places-meet, FirstLater}
 use Rattle.rules.specs.Laws.Overlaps.{overlap-found, overlap-meets}
