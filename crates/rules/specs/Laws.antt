@@ -9,3 +9,4 @@ pub mod Matching
 pub mod Rows
 pub mod MatchLoop
 pub mod Winners
+pub mod Walks

@@ -81,3 +81,15 @@ pub record FirstAfter (rs : List Rule) (e l i j : ℕ) : Type 0 where
 -- No pair comes after (e, l).
 abbrev pub NoneAfter : (rs : List Rule) (e l : ℕ) → Type 0
 NoneAfter rs e l = (i j : ℕ) → Pair rs i j → After e l i j → ⊥
+
+-- ---- all pairs, one call after the other
+
+-- A pair of places, the earlier first.
+pub record Places : Type 0 where
+  pub earlier : ℕ
+  pub later : ℕ
+
+-- "one a call": what the calls report, each handed the pair before, from (e, l) until there is no further pair.
+pub data Walk (rs : List Rule) : (e l : ℕ) → List Places → Type 0 where
+  ends : {e l : ℕ} → NoneAfter rs e l → Walk rs e l []
+  goes : {e l i j : ℕ} {ps : List Places} → FirstAfter rs e l i j → Walk rs i j ps → Walk rs e l (record { earlier = i; later = j } ∷ ps)
