@@ -7,6 +7,7 @@ pub mod Pairs
 pub mod Showing
 pub mod Matching
 pub mod Rows
+pub mod RowsRead
 pub mod MatchLoop
 pub mod Winners
 pub mod Walks
