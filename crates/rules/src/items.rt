@@ -24,7 +24,7 @@ pub const ANY: u8 = 4;
 pub const REST: u8 = 5;
 
 // Behind an item's byte and the length of its word, or its kind.
-const AFTER_TWO: usize = 2;
+pub const AFTER_TWO: usize = 2;
 
 // An item that counts, and where it ends.
 pub enum ItemRead {

@@ -1,5 +1,6 @@
 // Whether a rule matches the top-level nodes of a tree.
 
+use crate::items::AFTER_TWO;
 use crate::items::ANY;
 use crate::items::GROUP;
 use crate::items::KIND;
@@ -37,7 +38,7 @@ fn item_fits(table: &[u8], item: usize, shape: u8, text: &[u8]) -> bool
         if shape != IDENTIFIER {
             return false;
         }
-        let begin = item + 2;
+        let begin = item + AFTER_TWO;
         let end = item_end(table, item);
         return same_bytes(&table[begin..end], text);
     }
