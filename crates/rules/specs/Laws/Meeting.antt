@@ -83,8 +83,8 @@ module _ (table : List ℕ) where
   -- ---- two rules
 
   module _ (a a′ b b′ : ℕ) where
-    -- The items left decide.
-    pub record MeetLoop (x y : ℕ) : Type 0 where
+    -- The two rules that stand there, and what is left of each from x and y on.
+    pub record TwoRules (x y : ℕ) : Type 0 where
       pub first : Rule
       pub second : Rule
       pub first-stands : RuleStands table a′ a first
@@ -93,10 +93,9 @@ module _ (table : List ℕ) where
       pub left′ : Rule
       pub items : ItemsStand table a′ x left
       pub items′ : ItemsStand table b′ y left′
-      pub same : rules-meet first second ≡ rules-meet left left′
 
-    pub meet-begins : SomeRule table a′ a → SomeRule table b′ b → MeetLoop a b
-    meet-begins s t = record {
+    abbrev pub two-begin : SomeRule table a′ a → SomeRule table b′ b → TwoRules a b
+    two-begin s t = record {
       first = s .rule;
       second = t .rule;
       first-stands = s .stands;
@@ -105,68 +104,82 @@ module _ (table : List ℕ) where
       left′ = t .rule;
       items = items-there (s .stands);
       items′ = items-there (t .stands);
-      same = refl;
     }
 
+    -- An item of each further.
+    abbrev pub two-on : {x y x′ y′ : ℕ} (r : TwoRules x y) (o : OneLeft table a′ x (r .left)) (o′ : OneLeft table b′ y (r .left′)) → OfItem table x (λ i n. x′ ≡ n)
+        → OfItem table y (λ i n. y′ ≡ n) → TwoRules x′ y′
+    two-on r o o′ en en′ = record {
+      first = r .first;
+      second = r .second;
+      first-stands = r .first-stands;
+      second-stands = r .second-stands;
+      left = record { items = o .others; rest = r .left .rest };
+      left′ = record { items = o′ .others; rest = r .left′ .rest };
+      items = subst (λ (n : ℕ). ItemsStand table a′ n (record { items = o .others; rest = r .left .rest })) (sym (en _ _ (o .item-stands))) (o .later);
+      items′ = subst (λ (n : ℕ). ItemsStand table b′ n (record { items = o′ .others; rest = r .left′ .rest })) (sym (en′ _ _ (o′ .item-stands))) (o′ .later);
+    }
+
+    -- The items left decide.
+    pub record MeetLoop (x y : ℕ) : Type 0 where
+      pub rules : TwoRules x y
+      pub same : rules-meet (rules .first) (rules .second) ≡ rules-meet (rules .left) (rules .left′)
+
+    pub meet-begins : SomeRule table a′ a → SomeRule table b′ b → MeetLoop a b
+    meet-begins s t = record { rules = two-begin s t; same = refl }
+
     -- What the walk finds out is said of the rules that stand there.
-    pub meet-says : {x y : ℕ} {r : Bool} (m : MeetLoop x y) → r ≡ rules-meet (m .left) (m .left′) → OfRules table a′ a b′ b (λ p q. r ≡ rules-meet p q)
+    pub meet-says : {x y : ℕ} {r : Bool} (m : MeetLoop x y) → r ≡ rules-meet (m .rules .left) (m .rules .left′) → OfRules table a′ a b′ b (λ p q. r ≡ rules-meet p q)
     meet-says m e = record {
-      says = λ p q s t. e ∙ sym (m .same) ∙ ap (λ (z : Rule). rules-meet z (m .second)) (one-rule (m .first-stands) s) ∙ ap (λ (z : Rule). rules-meet p z) (one-rule (m .second-stands) t);
+      says = λ p q s t. e ∙ sym (m .same) ∙ ap (λ (z : Rule). rules-meet z (m .rules .second)) (one-rule (m .rules .first-stands) s) ∙ ap (λ (z : Rule). rules-meet p z) (one-rule (m .rules .second-stands) t);
     }
 
     module _ {x y : ℕ} (m : MeetLoop x y) where
       -- The first rule has no item left, but "the rest";
       pub first-rest : counts table a′ x ≡ false → x < a′ → OfRules table a′ a b′ b (λ p q. true ≡ rules-meet p q)
-      first-rest e p = meet-says m (rest-meets (m .left) (m .left′) (counts-none table (m .items) e ∙ ap (λ (z : Bool). record { items = []; rest = z }) (lt-ltb x a′ p)))
+      first-rest e p = meet-says m (rest-meets (m .rules .left) (m .rules .left′) (counts-none table (m .rules .items) e ∙ ap (λ (z : Bool). record { items = []; rest = z }) (lt-ltb x a′ p)))
 
       -- or nothing: then the second has no item left either.
       pub first-ends : counts table a′ x ≡ false → a′ ≤ x → (c : Bool) → c ≡ counts table b′ y → OfRules table a′ a b′ b (λ p q. not c ≡ rules-meet p q)
       first-ends e p c k = meet-says m (ends c (sym k))
         where
-          nothing : m .left ≡ record { items = []; rest = false }
-          nothing = counts-none table (m .items) e ∙ ap (λ (z : Bool). record { items = []; rest = z }) (le-ltb x a′ p)
+          nothing : m .rules .left ≡ record { items = []; rest = false }
+          nothing = counts-none table (m .rules .items) e ∙ ap (λ (z : Bool). record { items = []; rest = z }) (le-ltb x a′ p)
 
-          ends : (c : Bool) → counts table b′ y ≡ c → not c ≡ rules-meet (m .left) (m .left′)
-          ends true q = let o = counts-more table (m .items′) q in none-meets-more (m .left) (m .left′) nothing (o .is)
-          ends false q = none-meets-none (m .left) (m .left′) (ap (λ (z : Rule). z .items) nothing) (ap (λ (z : Rule). z .items) (counts-none table (m .items′) q))
+          ends : (c : Bool) → counts table b′ y ≡ c → not c ≡ rules-meet (m .rules .left) (m .rules .left′)
+          ends true q = let o = counts-more table (m .rules .items′) q in none-meets-more (m .rules .left) (m .rules .left′) nothing (o .is)
+          ends false q = none-meets-none (m .rules .left) (m .rules .left′) (ap (λ (z : Rule). z .items) nothing) (ap (λ (z : Rule). z .items) (counts-none table (m .rules .items′) q))
 
       module _ (e : counts table a′ x ≡ true) where
         -- The second rule has no item left: "the rest", or nothing.
         pub second-ends : counts table b′ y ≡ false → OfRules table a′ a b′ b (λ p q. ltb y b′ ≡ rules-meet p q)
-        second-ends k = let o = counts-more table (m .items) e in meet-says m (more-meets-none (m .left) (m .left′) (o .is) (counts-none table (m .items′) k))
+        second-ends k = let o = counts-more table (m .rules .items) e in meet-says m (more-meets-none (m .rules .left) (m .rules .left′) (o .is) (counts-none table (m .rules .items′) k))
 
         module _ (k : counts table b′ y ≡ true) where
           pub some-first : SomeItem table x
-          some-first = let o = counts-more table (m .items) e in record { the-item = o .the-item; next = o .next; stands = o .item-stands }
+          some-first = let o = counts-more table (m .rules .items) e in record { the-item = o .the-item; next = o .next; stands = o .item-stands }
 
           pub some-second : SomeItem table y
-          some-second = let o = counts-more table (m .items′) k in record { the-item = o .the-item; next = o .next; stands = o .item-stands }
+          some-second = let o = counts-more table (m .rules .items′) k in record { the-item = o .the-item; next = o .next; stands = o .item-stands }
 
           module _ {r : Bool} (h : OfItem table x (λ i n. OfItem table y (λ j n′. r ≡ agree i j))) where
             pub disagree : r ≡ false → OfRules table a′ a b′ b (λ p q. false ≡ rules-meet p q)
             disagree q =
-                let o = counts-more table (m .items) e in
-                let o′ = counts-more table (m .items′) k in
-                meet-says m (sym (both-more (m .left) (m .left′) (o .is) (o′ .is) (sym (h _ _ (o .item-stands) _ _ (o′ .item-stands)) ∙ q)))
+                let o = counts-more table (m .rules .items) e in
+                let o′ = counts-more table (m .rules .items′) k in
+                meet-says m (sym (both-more (m .rules .left) (m .rules .left′) (o .is) (o′ .is) (sym (h _ _ (o .item-stands) _ _ (o′ .item-stands)) ∙ q)))
 
             pub meet-again : r ≡ true → {x′ y′ : ℕ} → OfItem table x (λ i n. x′ ≡ n) → OfItem table y (λ j n. y′ ≡ n) → MeetLoop x′ y′
             meet-again q en en′ =
-                let o = counts-more table (m .items) e in
-                let o′ = counts-more table (m .items′) k in
+                let o = counts-more table (m .rules .items) e in
+                let o′ = counts-more table (m .rules .items′) k in
                 record {
-                  first = m .first;
-                  second = m .second;
-                  first-stands = m .first-stands;
-                  second-stands = m .second-stands;
-                  left = record { items = o .others; rest = m .left .rest };
-                  left′ = record { items = o′ .others; rest = m .left′ .rest };
-                  items = subst (λ (n : ℕ). ItemsStand table a′ n (record { items = o .others; rest = m .left .rest })) (sym (en _ _ (o .item-stands))) (o .later);
-                  items′ = subst (λ (n : ℕ). ItemsStand table b′ n (record { items = o′ .others; rest = m .left′ .rest })) (sym (en′ _ _ (o′ .item-stands))) (o′ .later);
-                  same = m .same ∙ both-on (m .left) (m .left′) (o .is) (o′ .is) (sym (h _ _ (o .item-stands) _ _ (o′ .item-stands)) ∙ q);
+                  rules = two-on (m .rules) o o′ en en′;
+                  same = m .same ∙ both-on (m .rules .left) (m .rules .left′) (o .is) (o′ .is) (sym (h _ _ (o .item-stands) _ _ (o′ .item-stands)) ∙ q);
                 }
 
             pub meet-further : {x′ : ℕ} → OfItem table x (λ i n. x′ ≡ n) → (x < x′) × (x′ ≤ a′)
             meet-further en =
-                let o = counts-more table (m .items) e in
+                let o = counts-more table (m .rules .items) e in
                 let q = en _ _ (o .item-stands) in
                 (omega (arith, q, item-moves table (o .item-stands)), omega (arith, q, o .within))

@@ -20,7 +20,7 @@ use Rattle.rules.specs.Overlaps.{items-bytes, shown, shown-item, longest
 use Rattle.rules.specs.ItemsStand.{ItemStands, ItemsStand, SomeItem, ItemRoom, ItemsRoom, OfItem, OfItems, OfRules, RuleStands, SomeRule, StandsSomewhere, counts}
 use Rattle.rules.specs.Laws.Stand.{item-moves, one-item, one-list, counts-more, counts-none, stands-within, any-byte-there, OneLeft, by-case}
 use Rattle.rules.specs.Laws.Overlaps.{shown-good}
-use Rattle.rules.specs.Laws.Meeting.{items-there, one-rule}
+use Rattle.rules.specs.Laws.Meeting.{TwoRules, two-begin, two-on, items-there, one-rule}
 use Rattle.rules.specs.Laws.Pairs.{stand-good}
 
 module _ (table : List ℕ) where
@@ -184,30 +184,16 @@ module _ (table : List ℕ) where
   -- The items so far stand in the buffer, and it has room for those left.
   module _ (before : List ℕ) (a a′ b b′ : ℕ) where
     pub record ShowLoop (now : List ℕ) (at x y : ℕ) : Type 0 where
-      pub first : Rule
-      pub second : Rule
-      pub first-stands : RuleStands table a′ a first
-      pub second-stands : RuleStands table b′ b second
-      pub left : Rule
-      pub left′ : Rule
-      pub items : ItemsStand table a′ x left
-      pub items′ : ItemsStand table b′ y left′
+      pub rules : TwoRules table a a′ b b′ x y
       pub done : List ℕ
       pub put : Appended before 0 done at now
-      pub same : done ++ items-bytes (shown (left .items) (left′ .items)) ≡ items-bytes (shown (first .items) (second .items))
-      pub room : at + length (items-bytes (shown (left .items) (left′ .items))) ≤ length now
+      pub same : done ++ items-bytes (shown (rules .left .items) (rules .left′ .items)) ≡ items-bytes (shown (rules .first .items) (rules .second .items))
+      pub room : at + length (items-bytes (shown (rules .left .items) (rules .left′ .items))) ≤ length now
       pub kept : length now ≡ length before
 
     pub show-begins : SomeRule table a′ a → SomeRule table b′ b → longest-shown ≤ length before → ShowLoop before 0 a b
     show-begins s t p = record {
-      first = s .rule;
-      second = t .rule;
-      first-stands = s .stands;
-      second-stands = t .stands;
-      left = s .rule;
-      left′ = t .rule;
-      items = items-there table (s .stands);
-      items′ = items-there table (t .stands);
+      rules = two-begin table a a′ b b′ s t;
       done = [];
       put = appended-none before 0;
       same = refl;
@@ -220,11 +206,11 @@ module _ (table : List ℕ) where
       both-true true d h = (refl, h)
       both-true false d h = absurd (true≢false (sym h))
 
-      one : OneLeft table a′ x (l .left)
-      one = counts-more table (l .items) (both-true (counts table a′ x) (counts table b′ y) e .0)
+      one : OneLeft table a′ x (l .rules .left)
+      one = counts-more table (l .rules .items) (both-true (counts table a′ x) (counts table b′ y) e .0)
 
-      two : OneLeft table b′ y (l .left′)
-      two = counts-more table (l .items′) (both-true (counts table a′ x) (counts table b′ y) e .1)
+      two : OneLeft table b′ y (l .rules .left′)
+      two = counts-more table (l .rules .items′) (both-true (counts table a′ x) (counts table b′ y) e .1)
 
       pub show-first : SomeItem table x
       show-first = record { the-item = one .the-item; next = one .next; stands = one .item-stands }
@@ -232,9 +218,9 @@ module _ (table : List ℕ) where
       pub show-second : SomeItem table y
       show-second = record { the-item = two .the-item; next = two .next; stands = two .item-stands }
 
-      bytes-shown : items-bytes (shown (l .left .items) (l .left′ .items)) ≡ item-bytes (shown-item (one .the-item) (two .the-item)) ++ items-bytes (shown (one .others) (two .others))
+      bytes-shown : items-bytes (shown (l .rules .left .items) (l .rules .left′ .items)) ≡ item-bytes (shown-item (one .the-item) (two .the-item)) ++ items-bytes (shown (one .others) (two .others))
       unfolding items-bytes shown
-      bytes-shown = ap (λ (z : List Item). items-bytes (shown z (l .left′ .items))) (one .is) ∙ ap (λ (z : List Item). items-bytes (shown (one .the-item ∷ one .others) z)) (two .is)
+      bytes-shown = ap (λ (z : List Item). items-bytes (shown z (l .rules .left′ .items))) (one .is) ∙ ap (λ (z : List Item). items-bytes (shown (one .the-item ∷ one .others) z)) (two .is)
 
       module _ {it : ℕ} (h : OfItem table x (λ i n. OfItem table y (λ j m. StandsSomewhere table it (shown-item i j)))) where
         somewhere : StandsSomewhere table it (shown-item (one .the-item) (two .the-item))
@@ -251,14 +237,7 @@ module _ (table : List ℕ) where
         show-again {r} {x′} {y′} {after} put en en′ long =
             let u = put _ _ (somewhere .stands) in
             record {
-              first = l .first;
-              second = l .second;
-              first-stands = l .first-stands;
-              second-stands = l .second-stands;
-              left = record { items = one .others; rest = l .left .rest };
-              left′ = record { items = two .others; rest = l .left′ .rest };
-              items = subst (λ (n : ℕ). ItemsStand table a′ n (record { items = one .others; rest = l .left .rest })) (sym (en _ _ (one .item-stands))) (one .later);
-              items′ = subst (λ (n : ℕ). ItemsStand table b′ n (record { items = two .others; rest = l .left′ .rest })) (sym (en′ _ _ (two .item-stands))) (two .later);
+              rules = two-on table a a′ b b′ (l .rules) one two en en′;
               done = l .done ++ item-bytes (shown-item (one .the-item) (two .the-item));
               put = appended-then (l .put) u;
               same =
@@ -283,31 +262,31 @@ module _ (table : List ℕ) where
         some k ks e = let clash : _≡_ {A = ℕ} (suc (length ks)) 0 = ap length e in absurd (omega (arith, clash))
 
     module _ {now : List ℕ} {at x y : ℕ} (l : ShowLoop now at x y) (e : (counts table a′ x && counts table b′ y) ≡ false) where
-      one-empty : (l .left .items ≡ []) ⊎ (l .left′ .items ≡ [])
+      one-empty : (l .rules .left .items ≡ []) ⊎ (l .rules .left′ .items ≡ [])
       one-empty = by (counts table a′ x) refl
         where
-          by : (c : Bool) → counts table a′ x ≡ c → (l .left .items ≡ []) ⊎ (l .left′ .items ≡ [])
-          by true q = inr (ap (λ (z : Rule). z .items) (counts-none table (l .items′) (sym (ap (λ (c : Bool). c && counts table b′ y) q) ∙ e)))
-          by false q = inl (ap (λ (z : Rule). z .items) (counts-none table (l .items) q))
+          by : (c : Bool) → counts table a′ x ≡ c → (l .rules .left .items ≡ []) ⊎ (l .rules .left′ .items ≡ [])
+          by true q = inr (ap (λ (z : Rule). z .items) (counts-none table (l .rules .items′) (sym (ap (λ (c : Bool). c && counts table b′ y) q) ∙ e)))
+          by false q = inl (ap (λ (z : Rule). z .items) (counts-none table (l .rules .items) q))
 
-      follow : items-bytes (shown (l .left .items) (l .left′ .items)) ≡ items-bytes (l .left .items) ++ items-bytes (l .left′ .items)
-      follow = joined (l .left .items) (l .left′ .items) one-empty
+      follow : items-bytes (shown (l .rules .left .items) (l .rules .left′ .items)) ≡ items-bytes (l .rules .left .items) ++ items-bytes (l .rules .left′ .items)
+      follow = joined (l .rules .left .items) (l .rules .left′ .items) one-empty
 
       pub show-first-room : ItemsRoom table a′ x at now
       show-first-room = record {
-        some = l .left;
-        stands = l .items;
-        inside = l .first-stands .inside;
-        room = omega (arith, l .room, ap length follow, length-append (items-bytes (l .left .items)) (items-bytes (l .left′ .items)));
+        some = l .rules .left;
+        stands = l .rules .items;
+        inside = l .rules .first-stands .inside;
+        room = omega (arith, l .room, ap length follow, length-append (items-bytes (l .rules .left .items)) (items-bytes (l .rules .left′ .items)));
       }
 
       module _ {r : ℕ} {mid : List ℕ} (h : OfItems table a′ x (λ is. Appended now at (items-bytes is) r mid)) (long : length mid ≡ length now) where
         pub show-second-room : ItemsRoom table b′ y r mid
         show-second-room = record {
-          some = l .left′;
-          stands = l .items′;
-          inside = l .second-stands .inside;
-          room = omega (arith, l .room, long, h (l .left) (l .items) .counts, ap length follow, length-append (items-bytes (l .left .items)) (items-bytes (l .left′ .items)));
+          some = l .rules .left′;
+          stands = l .rules .items′;
+          inside = l .rules .second-stands .inside;
+          room = omega (arith, l .room, long, h (l .rules .left) (l .rules .items) .counts, ap length follow, length-append (items-bytes (l .rules .left .items)) (items-bytes (l .rules .left′ .items)));
         }
 
         pub show-ends : {r′ : ℕ} {after : List ℕ} → OfItems table b′ y (λ js. Appended mid r (items-bytes js) r′ after)
@@ -315,10 +294,10 @@ module _ (table : List ℕ) where
         show-ends {r′} {after} h′ = record {
           says = λ p q s t.
               appended-as
-              (append-assoc (l .done) (items-bytes (l .left .items)) (items-bytes (l .left′ .items))
+              (append-assoc (l .done) (items-bytes (l .rules .left .items)) (items-bytes (l .rules .left′ .items))
               ∙ ap (λ (z : List ℕ). l .done ++ z) (sym follow)
               ∙ l .same
-              ∙ ap (λ (z : Rule). items-bytes (shown (z .items) (l .second .items))) (one-rule table (l .first-stands) s)
-              ∙ ap (λ (z : Rule). items-bytes (shown (p .items) (z .items))) (one-rule table (l .second-stands) t))
-              (appended-then (appended-then (l .put) (h (l .left) (l .items))) (h′ (l .left′) (l .items′)));
+              ∙ ap (λ (z : Rule). items-bytes (shown (z .items) (l .rules .second .items))) (one-rule table (l .rules .first-stands) s)
+              ∙ ap (λ (z : Rule). items-bytes (shown (p .items) (z .items))) (one-rule table (l .rules .second-stands) t))
+              (appended-then (appended-then (l .put) (h (l .rules .left) (l .rules .items))) (h′ (l .rules .left′) (l .rules .items′)));
         }
