@@ -107,9 +107,94 @@ static void allowances(void)
     CHECK(memcmp(before, file, TYPE_NAME_ALLOWANCE_AT) == 0);
 }
 
+/* `A list`, then `* group any rest`, byte for byte. */
+static const uint8_t two_rules[] = {8, 0, 16, 1, 0, 1, 'A', 3, 9, 0, 16, 1, 1, 21, 2, 4, 5};
+
+static int build_rules(uint8_t *table, size_t room, size_t *length)
+{
+    static const struct type_name_item first[] = {{TYPE_NAME_ITEM_WORD, 0, "A"}, {TYPE_NAME_ITEM_LIST, 0, NULL}};
+    static const struct type_name_item second[] = {{TYPE_NAME_ITEM_KIND, TYPE_NAME_KIND_STAR, NULL},
+                                                   {TYPE_NAME_ITEM_GROUP, 0, NULL},
+                                                   {TYPE_NAME_ITEM_ANY, 0, NULL},
+                                                   {TYPE_NAME_ITEM_REST, 0, NULL}};
+    *length = 0;
+    return type_name_put_rule(table, room, length, first, 2) && type_name_put_rule(table, room, length, second, 4);
+}
+
+/* With less room what was written before stays, and nothing is written past it. */
+static void tables(void)
+{
+    uint8_t table[ROOM];
+    size_t length, room, i;
+    for (room = 0; room <= sizeof two_rules; room++) {
+        memset(table, 0xa5, sizeof table);
+        CHECK(build_rules(table, room, &length) == (room == sizeof two_rules));
+        CHECK(length == (room < 8 ? 0 : room < sizeof two_rules ? 8 : sizeof two_rules));
+        CHECK(memcmp(table, two_rules, length) == 0);
+        for (i = length; i < sizeof table; i++)
+            CHECK(table[i] == 0xa5);
+    }
+    length = sizeof table + 1;
+    CHECK(!type_name_put_rule(table, sizeof table, &length, NULL, 0));
+}
+
+static int fits(enum type_name_item_kind item, uint8_t kind, const char *word)
+{
+    struct type_name_item one;
+    uint8_t table[ROOM];
+    size_t length = 0;
+    one.item = item;
+    one.kind = kind;
+    one.word = word;
+    return type_name_put_rule(table, sizeof table, &length, &one, 1);
+}
+
+static void items(void)
+{
+    struct type_name_item many[TYPE_NAME_MOST_ITEMS + 1];
+    char word[TYPE_NAME_LONGEST_WORD + 2];
+    uint8_t table[ROOM];
+    size_t length = 0, i;
+    memset(word, 'w', sizeof word);
+    word[TYPE_NAME_LONGEST_WORD + 1] = 0;
+    CHECK(!fits(TYPE_NAME_ITEM_WORD, 0, word));
+    CHECK(fits(TYPE_NAME_ITEM_WORD, 0, word + 1));
+    CHECK(!fits(TYPE_NAME_ITEM_WORD, 0, "") && !fits(TYPE_NAME_ITEM_WORD, 0, "a b") && fits(TYPE_NAME_ITEM_WORD, 0, "!~"));
+    CHECK(!fits(TYPE_NAME_ITEM_KIND, 0, NULL) && !fits(TYPE_NAME_ITEM_KIND, TYPE_NAME_KIND_END + 1, NULL));
+    CHECK(fits(TYPE_NAME_ITEM_KIND, 1, NULL) && fits(TYPE_NAME_ITEM_KIND, TYPE_NAME_KIND_END, NULL));
+    for (i = 0; i <= TYPE_NAME_MOST_ITEMS; i++) {
+        many[i].item = i < TYPE_NAME_MOST_ITEMS ? TYPE_NAME_ITEM_ANY : TYPE_NAME_ITEM_REST;
+        many[i].kind = 0;
+        many[i].word = NULL;
+    }
+    CHECK(!type_name_put_rule(table, sizeof table, &length, many, 0));
+    CHECK(!type_name_put_rule(table, sizeof table, &length, many, TYPE_NAME_MOST_ITEMS + 1) && length == 0);
+    CHECK(type_name_put_rule(table, sizeof table, &length, many + 1, TYPE_NAME_MOST_ITEMS));
+    CHECK(length == TYPE_NAME_RULE_HEAD_LENGTH + TYPE_NAME_MOST_ITEMS);
+    many[0].item = TYPE_NAME_ITEM_REST;
+    CHECK(!type_name_put_rule(table, sizeof table, &length, many, 2));
+}
+
+/* The pairs of `two_rules`: none. A buffer is touched by no call that finds none. */
+static void no_overlap(void)
+{
+    uint32_t answer[TYPE_NAME_ANSWER_LENGTH] = {9, 9, 9, 9};
+    uint8_t sequence[2] = {7, 7};
+    CHECK(type_name_overlap(two_rules, sizeof two_rules, 0, 0, sequence, sizeof sequence, answer, 4) == 0);
+    CHECK(answer[0] == 0 && answer[1] == 0 && answer[2] == 0 && answer[3] == 0);
+    CHECK(type_name_overlap(two_rules, 8 + 1, 0, 0, sequence, sizeof sequence, answer, 4) ==
+          TYPE_NAME_ERROR_INVALID_RULE_TABLE);
+    CHECK(answer[0] == TYPE_NAME_ERROR_INVALID_RULE_TABLE && answer[1] == TYPE_NAME_NO_TOKEN);
+    CHECK(sequence[0] == 7 && sequence[1] == 7);
+}
+
 static void no_pointers(void)
 {
     uint32_t answer[TYPE_NAME_ANSWER_LENGTH] = {9, 9, 9, 9};
+    CHECK(type_name_match_or_null(NULL, 0, NULL, 0, NULL, 0, NULL, 0) == TYPE_NAME_ERROR_INVALID_HEAD);
+    CHECK(type_name_overlap_or_null(NULL, 0, 0, 0, NULL, 0, NULL, 0) == 0);
+    CHECK(type_name_overlap_or_null(NULL, 0, 0, 0, NULL, 0, answer, 2) == 0);
+    CHECK(answer[0] == 0 && answer[1] == 0 && answer[2] == 9 && answer[3] == 9);
     CHECK(type_name_read_or_null(NULL, 0, NULL, 0, NULL, 0) == TYPE_NAME_ERROR_INVALID_HEAD);
     CHECK(type_name_read_or_null(NULL, 0, NULL, 0, answer, 4) == TYPE_NAME_ERROR_INVALID_HEAD);
     CHECK(answer[0] == TYPE_NAME_ERROR_INVALID_HEAD && answer[1] == TYPE_NAME_NO_TOKEN);
@@ -123,6 +208,9 @@ int main(int count, char **arguments)
     rows(arguments[1]);
     records();
     allowances();
+    tables();
+    items();
+    no_overlap();
     no_pointers();
     snprintf(version, sizeof version, "%d.%d.%d", TYPE_NAME_VERSION_MAJOR, TYPE_NAME_VERSION_MINOR,
              TYPE_NAME_VERSION_PATCH);

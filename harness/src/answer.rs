@@ -1,4 +1,4 @@
-//! Answers, and the refusals of document 01 by name.
+//! Answers, and the refusals of documents 01 and 02 by name.
 
 use std::fmt;
 
@@ -52,6 +52,8 @@ impl Refusal {
     pub const ALLOWANCE_PASSED: u32 = 25;
     pub const NO_TYPE_NAME: u32 = 30;
     pub const NOT_AVAILABLE_IN_PROFILE: u32 = 40;
+    pub const INVALID_RULE_TABLE: u32 = 50;
+    pub const NO_RULE_MATCHES: u32 = 51;
 
     pub fn plain(number: u32) -> Self {
         Self::at(number, NO_TOKEN)

@@ -8,7 +8,8 @@
 //! `listing` prints answers, `generate` makes cases, `worked_rows` holds the
 //! rows that document 01 works out, `chosen_rows` such as notice a change of a
 //! rule, `replay` writes the list of answers that a
-//! program replays, `token_list` is the original for measuring.
+//! program replays, `token_list` is the original for measuring, `rules` is a
+//! model of rule tables (document 02, C-11) on top of `oracle`.
 
 pub mod answer;
 pub mod chosen_rows;
@@ -22,6 +23,7 @@ pub mod names;
 pub mod oracle;
 pub mod profile;
 pub mod replay;
+pub mod rules;
 pub mod token_list;
 pub mod tree;
 pub mod worked_rows;

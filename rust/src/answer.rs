@@ -3,7 +3,9 @@
 use core::error::Error;
 use core::fmt;
 
-use crate::limits::{MOST_BYTES, MOST_NESTING, MOST_TOKENS, NO_TOKEN, NUMBERS_PER_TOKEN};
+use crate::limits::{
+    ANSWER_LENGTH, MOST_BYTES, MOST_NESTING, MOST_RULES, MOST_TOKENS, NO_TOKEN, NUMBERS_PER_TOKEN,
+};
 use crate::numbered::numbered;
 
 /// The type name is refused.
@@ -22,14 +24,19 @@ pub struct Refusal {
 }
 
 impl Refusal {
-    pub(crate) fn of_numbers(number: u32, token: u32, detail: u32, steps: u32) -> Self {
+    /// What stands behind the 0 of an answer that is no refusal, else the refusal.
+    pub(crate) fn of_answer(answer: [u32; ANSWER_LENGTH]) -> Result<[u32; 3], Self> {
+        let [number, token, detail, steps] = match answer {
+            [0, accepted @ ..] => return Ok(accepted),
+            refused => refused,
+        };
         let error = TypeNameError::try_from(number);
-        Self {
+        Err(Self {
             error: error.expect("the proved reader refuses with numbers of the table alone"),
             token: (token != NO_TOKEN).then_some(token),
             detail,
             steps,
-        }
+        })
     }
 
     /// For `UnexpectedClosingDelimiter` the innermost bracket that was open, if one was.
@@ -83,8 +90,8 @@ impl fmt::Display for Refusal {
 impl Error for Refusal {}
 
 numbered! {
-    /// Why a type name is refused, in the original's names; 1 to 6 and 25 are added, and each reason of its `InvalidSyntax` is
-    /// a case of its own. `docs/FORMAT.md` has the table.
+    /// Why a type name is refused, in the original's names; 1 to 6, 25, 50 and 51 are added, and each reason of its
+    /// `InvalidSyntax` is a case of its own. `docs/FORMAT.md` has the table.
     #[non_exhaustive]
     TypeNameError {
         /// The file has more than [`MOST_BYTES`] bytes.
@@ -97,7 +104,8 @@ numbered! {
         InvalidRecord = 4,
         /// There are more than [`MOST_TOKENS`] tokens.
         TooManyRecords = 5,
-        /// The tree buffer has fewer than [`NUMBERS_PER_TOKEN`] numbers a token.
+        /// The tree buffer has fewer than [`NUMBERS_PER_TOKEN`] numbers a token; of
+        /// [`type_name_overlap`](crate::type_name_overlap): the sequence buffer has fewer bytes than are shown.
         ShortBuffer = 6,
         /// There is no token.
         Empty = 10,
@@ -131,6 +139,10 @@ numbered! {
         NoTypeName = 30,
         /// The standard lacks a feature that the type name uses.
         NotAvailableInProfile = 40,
+        /// The rule table is not of its form, or has more than [`MOST_RULES`] rules.
+        InvalidRuleTable = 50,
+        /// No rule of the table matches.
+        NoRuleMatches = 51,
     }
 }
 
@@ -149,6 +161,10 @@ impl fmt::Display for TypeNameError {
             Self::NestingLimitExceeded => {
                 write!(to, "groups and lists nest deeper than {MOST_NESTING}")
             }
+            Self::InvalidRuleTable => write!(
+                to,
+                "the rule table is not of its form, or has more than {MOST_RULES} rules"
+            ),
             _ => to.write_str(self.sentence()),
         }
     }
@@ -186,10 +202,12 @@ impl TypeNameError {
             Self::AllowancePassed => "reading and checking would pass the allowance",
             Self::NoTypeName => "the tokens name no type",
             Self::NotAvailableInProfile => "the standard lacks what the type name uses",
+            Self::NoRuleMatches => "no rule of the table matches",
             Self::FileTooLong
             | Self::TooManyRecords
             | Self::ShortBuffer
-            | Self::NestingLimitExceeded => unreachable!("these hold numbers"),
+            | Self::NestingLimitExceeded
+            | Self::InvalidRuleTable => unreachable!("these hold numbers"),
         }
     }
 }

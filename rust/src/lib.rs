@@ -1,7 +1,8 @@
 //! Reads the name of a C, C++ or Fortran type, given as tokens, into a tree, or refuses it with one number that says why.
 //!
 //! A lexer's tokens become a row file with [`Row`]; [`parse_type_name`] reads it into a buffer of the caller's and gives a
-//! [`Tree`] or a [`Refusal`].
+//! [`Tree`] or a [`Refusal`]. A [`Table`] of rules over a tree's top-level nodes says which rule wins for a type name, and
+//! which of its rules overlap.
 //!
 #![doc = "```"]
 #![doc = include_str!("../examples/lane.rs")]
@@ -12,12 +13,13 @@
 //!
 //! # What is proved, and what is not
 //!
-//! Proved, for every file and every buffer: what the C function `type_name_read` answers and writes. `README.md` says what
-//! that comprises, `include/type_name.h` what the caller of that function sees to.
+//! Proved, for every file, table and buffer: what the C functions `type_name_read`, `type_name_match` and
+//! `type_name_overlap` answer and write. `README.md` says what that comprises, `include/type_name.h` what the caller of those
+//! functions sees to.
 //!
 //! Not proved: this crate. It sees to what no contract covers by handing over slices, which are aligned, as long as they
-//! say, never null and, as two of the three are `&mut`, apart from each other. It gives the numbers names and lays out row
-//! files; tests hold both to the proved definitions.
+//! say, never null and, as those that are written are `&mut`, apart from each other. It gives the numbers names and lays out
+//! row files and rule tables; tests hold both to the proved definitions.
 
 #![no_std]
 #![warn(missing_docs)]
@@ -27,8 +29,12 @@ extern crate alloc;
 mod answer;
 mod limits;
 mod numbered;
+mod overlaps;
 mod profile;
+mod raw;
 mod row;
+mod rule;
+mod table;
 mod token;
 mod token_kind;
 mod tree;
@@ -39,12 +45,17 @@ use alloc::vec::Vec;
 pub use answer::{Delimiter, Feature, Refusal, TypeNameError};
 pub use limits::{
     ALLOWANCE_AT, ANSWER_LENGTH, GREATEST_WORD_BYTE, HEAD_KIND, HEAD_LENGTH, LEAST_WORD_BYTE,
-    LONGEST_WORD, MOST_BYTES, MOST_NESTING, MOST_TOKENS, NO_TOKEN, NODE_WIDTH, NUMBERS_PER_TOKEN,
-    Offset, TOKEN_LENGTH, TREE_LENGTH,
+    LONGEST_SEQUENCE, LONGEST_WORD, MOST_BYTES, MOST_ITEMS, MOST_NESTING, MOST_RULES, MOST_TOKENS,
+    NO_TOKEN, NODE_WIDTH, NUMBERS_PER_TOKEN, Offset, RULE_HEAD_LENGTH, RULE_KIND, TOKEN_LENGTH,
+    TREE_LENGTH,
 };
 pub use numbered::UnknownNumberError;
+pub use overlaps::{Overlap, Overlaps};
 pub use profile::{CStandard, CppStandard, FortranStandard, HostLanguage, HostLanguageProfile};
+pub use raw::{type_name_match, type_name_overlap, type_name_read};
 pub use row::{AMPLE_ALLOWANCE, Head, RecordError, Row, StructureCheck, limit_allowance};
+pub use rule::{Item, ItemKind, Items, RuleError};
+pub use table::{Rules, Table, Winner};
 pub use token::{Token, Tokens};
 pub use token_kind::TokenKind;
 pub use tree::{Node, NodeKind, Nodes, Tree};
@@ -75,41 +86,6 @@ pub fn tree_for(file: &[u8]) -> Vec<u32> {
 pub fn parse_type_name<'a>(file: &'a [u8], buffer: &'a mut [u32]) -> Result<Tree<'a>, Refusal> {
     let mut answer = [0; ANSWER_LENGTH];
     type_name_read(file, buffer, &mut answer);
-    match answer {
-        [0, nodes, steps, _] => Ok(Tree::new(file, buffer, nodes, steps)),
-        [number, token, detail, steps] => Err(Refusal::of_numbers(number, token, detail, steps)),
-    }
-}
-
-/// The C function, with slices for its pointers and lengths: returns 0 if accepted, else the refusal's number, and writes as
-/// many of the answer's [`ANSWER_LENGTH`] numbers as there is room for.
-///
-/// For those who want the numbers themselves; all others call [`parse_type_name`].
-pub fn type_name_read(file: &[u8], tree: &mut [u32], answer: &mut [u32]) -> u32 {
-    // SAFETY: as slices, the three are aligned, valid for as long as they say and not null; two are `&mut`, so that none
-    // overlaps another and nobody else writes them meanwhile.
-    unsafe {
-        c::type_name_read(
-            file.as_ptr(),
-            file.len(),
-            tree.as_mut_ptr(),
-            tree.len(),
-            answer.as_mut_ptr(),
-            answer.len(),
-        )
-    }
-}
-
-mod c {
-    unsafe extern "C" {
-        /// As `include/type_name.h` declares it.
-        pub fn type_name_read(
-            file: *const u8,
-            file_len: usize,
-            tree: *mut u32,
-            tree_len: usize,
-            answer: *mut u32,
-            answer_len: usize,
-        ) -> u32;
-    }
+    let [nodes, steps, _] = Refusal::of_answer(answer)?;
+    Ok(Tree::new(file, buffer, nodes, steps))
 }

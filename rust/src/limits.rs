@@ -1,4 +1,4 @@
-//! The numbers of the row file, the tree and the answer: the one place of this crate that says them. `docs/FORMAT.md`
+//! The numbers of the row file, the tree, the answer and the rule table: the one place of this crate that says them. `docs/FORMAT.md`
 //! describes them; `tools/numbers` holds them to the proved definitions.
 
 /// The most bytes of a row file, else [`FileTooLong`](crate::TypeNameError::FileTooLong).
@@ -45,6 +45,21 @@ pub const NO_TOKEN: u32 = 65_535;
 
 /// How deep groups and lists may nest, else [`NestingLimitExceeded`](crate::TypeNameError::NestingLimitExceeded).
 pub const MOST_NESTING: usize = 64;
+
+/// The bytes of a rule record, without its items.
+pub const RULE_HEAD_LENGTH: usize = 4;
+
+/// The number that a rule record has in place of a token kind.
+pub const RULE_KIND: u16 = 272;
+
+/// The most rules of a table, else [`InvalidRuleTable`](crate::TypeNameError::InvalidRuleTable).
+pub const MOST_RULES: usize = 256;
+
+/// The most items of a rule.
+pub const MOST_ITEMS: usize = 16;
+
+/// The bytes of a sequence buffer that is long enough for every table: those of [`MOST_ITEMS`] words of [`LONGEST_WORD`].
+pub const LONGEST_SEQUENCE: usize = 4_112;
 
 /// A byte offset in the source, as token records hold it.
 pub type Offset = u32;

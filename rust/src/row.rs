@@ -8,7 +8,7 @@ use core::ops::Range;
 use crate::limits::{ALLOWANCE_AT, HEAD_KIND, HEAD_LENGTH, LONGEST_WORD, Offset, TOKEN_LENGTH};
 use crate::numbered::numbered;
 use crate::profile::HostLanguageProfile;
-use crate::token::is_word_byte;
+use crate::token::{WordFault, checked_word};
 use crate::token_kind::TokenKind;
 
 /// An allowance that is ample for real type names. The 5,587 rows of real names that the project is tried with take at most
@@ -116,17 +116,6 @@ pub fn limit_allowance(file: &mut [u8], most: u32) {
     }
 }
 
-fn checked_word(text: &str) -> Result<&[u8], RecordError> {
-    let word = text.as_bytes();
-    if !(1..=LONGEST_WORD).contains(&word.len()) {
-        return Err(RecordError::WordLength(word.len()));
-    }
-    match word.iter().position(|byte| !is_word_byte(byte)) {
-        Some(at) => Err(RecordError::WordByte(at)),
-        None => Ok(word),
-    }
-}
-
 /// Why no token record can hold a token.
 #[derive(Debug, Clone, Copy, PartialEq, Eq)]
 pub enum RecordError {
@@ -136,6 +125,15 @@ pub enum RecordError {
     WordByte(usize),
     /// The span ends before it starts.
     SpanReversed,
+}
+
+impl From<WordFault> for RecordError {
+    fn from(fault: WordFault) -> Self {
+        match fault {
+            WordFault::Length(bytes) => Self::WordLength(bytes),
+            WordFault::Byte(at) => Self::WordByte(at),
+        }
+    }
 }
 
 impl fmt::Display for RecordError {

@@ -83,17 +83,29 @@ fn read(bytes: &[u8], number: u32) -> Option<(Token<'_>, usize)> {
         end: Offset::from_le_bytes([e0, e1, e2, e3]),
     };
     let word_stands = match kind {
-        TokenKind::Identifier => is_word(token.word.as_bytes()),
+        TokenKind::Identifier => checked_word(token.word).is_ok(),
         _ => token.word.is_empty(),
     };
     (word_stands && token.start <= token.end).then_some((token, length))
 }
 
-/// Whether a record can hold the word.
-fn is_word(word: &[u8]) -> bool {
-    (1..=LONGEST_WORD).contains(&word.len()) && word.iter().all(is_word_byte)
+/// Why no record can hold a word.
+pub(crate) enum WordFault {
+    /// It has so many bytes, and not 1 to 255.
+    Length(usize),
+    /// Its byte at this place is none of 33 to 126.
+    Byte(usize),
 }
 
-pub(crate) fn is_word_byte(byte: &u8) -> bool {
-    (LEAST_WORD_BYTE..=GREATEST_WORD_BYTE).contains(byte)
+/// The bytes of a word that a record can hold.
+pub(crate) fn checked_word(text: &str) -> Result<&[u8], WordFault> {
+    let word = text.as_bytes();
+    if !(1..=LONGEST_WORD).contains(&word.len()) {
+        return Err(WordFault::Length(word.len()));
+    }
+    let is_word_byte = |byte: &u8| (LEAST_WORD_BYTE..=GREATEST_WORD_BYTE).contains(byte);
+    match word.iter().position(|byte| !is_word_byte(byte)) {
+        Some(at) => Err(WordFault::Byte(at)),
+        None => Ok(word),
+    }
 }

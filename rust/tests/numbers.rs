@@ -1,8 +1,8 @@
 //! Numbers and names lead to each other. `tools/numbers` holds the numbers themselves to the proved definitions.
 
 use type_name::{
-    Delimiter, Feature, HostLanguage, HostLanguageProfile, NodeKind, StructureCheck, TokenKind,
-    TypeNameError,
+    Delimiter, Feature, HostLanguage, HostLanguageProfile, ItemKind, NodeKind, StructureCheck,
+    TokenKind, TypeNameError,
 };
 
 /// Each case has its own number and is found by it; no other number is taken.
@@ -27,7 +27,7 @@ macro_rules! round_trip {
 
 #[test]
 fn numbers_lead_to_names_and_back() {
-    round_trip!(Delimiter Feature HostLanguage NodeKind StructureCheck TokenKind TypeNameError);
+    round_trip!(Delimiter Feature HostLanguage ItemKind NodeKind StructureCheck TokenKind TypeNameError);
 }
 
 #[test]

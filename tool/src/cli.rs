@@ -5,25 +5,30 @@ use std::io::{self, Write};
 use std::process::ExitCode;
 
 use crate::excerpt::visible;
-use crate::read;
+use crate::{matching, overlaps, read, table};
 
 const HELP: &str = "\
 type-name COMMAND ..: reads names of C, C++ and Fortran types with the proved reader
 
 Commands:
     read       the tree of a type name, or why it is refused
+    match      the rule of a table that wins for a type name
+    overlaps   the pairs of rules of a table that some sequence of nodes matches together
+    table      the file of a table, for the functions of the library
     help       prints this
 `type-name COMMAND --help` says more. `type-name --version` prints the version.
 
-Exit status: 0 accepted, 1 refused, 2 wrong use or input.
+Exit status: 0 accepted, or no rules overlap; 1 refused, or some do; 2 wrong use or input.
 ";
 
 /// What a command comes to.
 pub enum Answer {
     /// What to print; exit status 0.
     Accepted(String),
-    /// What to print; exit status 1.
+    /// What to print where a type name is refused or rules overlap; exit status 1.
     Refused(String),
+    /// A file to write to standard output; exit status 0.
+    File(Vec<u8>),
 }
 
 /// Wrong use or input: what to print on standard error; exit status 2.
@@ -40,16 +45,22 @@ pub type Done = Result<Answer, Wrong>;
 type Command = fn(&[OsString]) -> Done;
 
 /// Each command by its name. Later ones are added here.
-const COMMANDS: [(&str, Command); 1] = [("read", read::command)];
+const COMMANDS: [(&str, Command); 4] = [
+    ("read", read::command),
+    ("match", matching::command),
+    ("overlaps", overlaps::command),
+    ("table", table::command),
+];
 
 /// Runs the tool with the words behind its name.
 pub fn run(arguments: Vec<OsString>) -> ExitCode {
-    let (text, status) = match done(&arguments) {
-        Ok(Answer::Accepted(text)) => (text, 0),
-        Ok(Answer::Refused(text)) => (text, 1),
+    let (bytes, status) = match done(&arguments) {
+        Ok(Answer::Accepted(text)) => (text.into_bytes(), 0),
+        Ok(Answer::Refused(text)) => (text.into_bytes(), 1),
+        Ok(Answer::File(bytes)) => (bytes, 0),
         Err(Wrong(message)) => return wrong(&message),
     };
-    match io::stdout().write_all(text.as_bytes()) {
+    match io::stdout().write_all(&bytes) {
         // Whoever reads has seen enough.
         Err(error) if error.kind() == io::ErrorKind::BrokenPipe => ExitCode::from(status),
         Err(error) => wrong(&format!("standard output: {error}")),

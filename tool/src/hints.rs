@@ -1,15 +1,17 @@
-//! What to write instead of a text that is refused. Each hint was tried before it is given: the proved reader accepts what it
-//! leads to.
+//! What to write instead of a text that is refused, which was tried before it is given: the proved reader accepts what it
+//! leads to. And a rule for a type name that no rule matches.
 
 use std::fmt;
 
 use type_name::{
-    Head, HostLanguage, HostLanguageProfile, Refusal, TypeNameError, parse_type_name, tree_for,
+    Head, HostLanguage, HostLanguageProfile, Item, MOST_ITEMS, Node, NodeKind, Refusal, TokenKind,
+    TypeNameError, parse_type_name, tree_for,
 };
 
+use crate::item_text::items_text;
 use crate::profiles::{language_option, option_name};
 use crate::rewrites::{self, RULES};
-use crate::source::Text;
+use crate::source::{Source, Text};
 
 /// What is known of a refusal, and a text that is accepted.
 pub struct Hint {
@@ -44,6 +46,32 @@ pub fn hint(text: &Text, refusal: Refusal) -> Option<Hint> {
         _ => rewritten(text)
             .or_else(|| later_standard(text))
             .or_else(|| other_language(text)),
+    }
+}
+
+/// A rule that matches a row which no rule of a table matches.
+pub fn matching_rule(source: &Source) -> Option<Hint> {
+    let mut buffer = tree_for(&source.file);
+    let tree = parse_type_name(&source.file, &mut buffer).ok()?;
+    let mut items: Vec<Item> = tree.top_level().map(|node| of_node(&node)).collect();
+    if items.len() > MOST_ITEMS {
+        items.truncate(MOST_ITEMS - 1);
+        items.push(Item::Rest);
+    }
+    Some(Hint {
+        sentence: "this rule matches it:".to_owned(),
+        instead: Some(items_text(items)),
+    })
+}
+
+/// The item that takes such nodes alone.
+fn of_node<'a>(node: &Node<'a>) -> Item<'a> {
+    match (node.kind, node.token.kind) {
+        (NodeKind::Token, TokenKind::Identifier) => Item::Word(node.token.word),
+        (NodeKind::Token, kind) => Item::Kind(kind),
+        (NodeKind::Parentheses | NodeKind::Brackets, _) => Item::Group,
+        // Arguments stand below lists alone.
+        (NodeKind::List | NodeKind::Argument, _) => Item::List,
     }
 }
 

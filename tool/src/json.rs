@@ -1,8 +1,10 @@
 //! Answers for programs: one JSON object on one line. docs/FORMAT.md, "JSON", describes it.
 
-use type_name::{Node, NodeKind, Refusal, Tree};
+use type_name::{Node, NodeKind, Overlap, Refusal, Tree};
 
 use crate::hints::Hint;
+use crate::item_text::item_text;
+use crate::rules::Rules;
 use crate::source::Source;
 
 /// The nodes stand in one list, parents first, as the node records do: nested objects would be deeper than many readers
@@ -48,6 +50,35 @@ pub fn refused(refusal: Refusal, hint: Option<&Hint>) -> String {
     let Refusal { detail, steps, .. } = refusal;
     let rest = format!("\"token\":{token},\"detail\":{detail},\"steps\":{steps},\"hint\":{hint}");
     format!("{{\"accepted\":false,{why},{rest}}}\n")
+}
+
+/// The rule that wins.
+pub fn matched(rules: &Rules, place: usize, steps: u32) -> String {
+    let rule = of_rule(rules, place);
+    format!("{{\"accepted\":true,\"steps\":{steps},\"rule\":{rule}}}\n")
+}
+
+pub fn overlaps(rules: &Rules, overlaps: &[Overlap]) -> String {
+    let pairs: Vec<String> = overlaps
+        .iter()
+        .map(|pair| {
+            let [earlier, later] = [pair.earlier, pair.later].map(|place| of_rule(rules, place));
+            let items = pair.sequence().map(|item| string(&item_text(item)));
+            let sequence = items.collect::<Vec<_>>().join(",");
+            format!("{{\"earlier\":{earlier},\"later\":{later},\"sequence\":[{sequence}]}}")
+        })
+        .collect();
+    let (count, pairs) = (rules.table.len(), pairs.join(","));
+    format!("{{\"rules\":{count},\"overlaps\":[{pairs}]}}\n")
+}
+
+fn of_rule(rules: &Rules, place: usize) -> String {
+    let rule = &rules.written[place];
+    let text = string(&rule.text);
+    format!(
+        "{{\"place\":{place},\"line\":{},\"text\":{text}}}",
+        rule.line
+    )
 }
 
 /// A JSON string.

@@ -4,24 +4,30 @@ use type_name::{Refusal, Tokens, TypeNameError};
 
 use crate::excerpt::excerpt;
 use crate::hints::Hint;
-use crate::source::Source;
+use crate::source::{Source, Text};
 
 /// The sentence, the text with the token marked, if one is named, and what to do, if something is known.
 pub fn sentence(source: &Source, refusal: Refusal, hint: Option<&Hint>) -> String {
     let mut said = refusal.to_string();
-    let Some(text) = &source.text else {
-        return said + &token_of_file(source, refusal) + "\n";
+    said += &match &source.text {
+        Some(text) => token_of_text(text, refusal),
+        None => token_of_file(source, refusal) + "\n",
     };
-    if refusal.error == TypeNameError::NotAvailableInProfile {
-        said += &format!(" ({})", text.head.profile);
-    }
-    let token = refusal.token.map(|token| &text.tokens[token as usize]);
-    let place = token.map(|token| token.span.clone());
-    said += &format!("\n{}", excerpt(&text.text, place));
     if let Some(hint) = hint {
         said += &format!("{hint}\n");
     }
     said
+}
+
+/// The text, with the token that is named; the profile, where it decides.
+fn token_of_text(text: &Text, refusal: Refusal) -> String {
+    let profile = match refusal.error {
+        TypeNameError::NotAvailableInProfile => format!(" ({})", text.head.profile),
+        _ => String::new(),
+    };
+    let token = refusal.token.map(|token| &text.tokens[token as usize]);
+    let place = token.map(|token| token.span.clone());
+    format!("{profile}\n{}", excerpt(&text.text, place))
 }
 
 /// The token that is named, as a row file has it.

@@ -93,8 +93,6 @@ fn spelling(kind: TokenKind) -> &'static str {
         TokenKind::String => "string",
         TokenKind::Boolean => "boolean",
         TokenKind::NullPointer => "nullptr",
-        TokenKind::LogicalEqv => ".eqv.",
-        TokenKind::LogicalNeqv => ".neqv.",
         TokenKind::FortranDefinedOperator => ".operator.",
         TokenKind::End => "end",
         _ => lexer::spelling(kind).unwrap_or("word"),
@@ -105,10 +103,7 @@ fn spelling(kind: TokenKind) -> &'static str {
 /// be read as a type name by mistake.
 pub fn text(word: &str) -> Result<String, Wrong> {
     if word == STANDARD_INPUT {
-        let text = read(OsStr::new(word), MOST_TEXT + 1)?;
-        if text.len() as u64 > MOST_TEXT {
-            return Err(Wrong(format!("a text has at most {MOST_TEXT} bytes")));
-        }
+        let text = read_whole(OsStr::new(word), MOST_TEXT, "text")?;
         return String::from_utf8(text).map_err(|_| Wrong("standard input is not UTF-8".into()));
     }
     let path = Path::new(word);
@@ -132,6 +127,15 @@ const AS_TEXT: &str = "; --text reads it as a type name all the same";
 fn looks_like_a_path(word: &str) -> bool {
     let is_rare = |next: char| next.is_whitespace() || "<>()[]*&,:".contains(next);
     word.ends_with(".row") || (word.contains('/') && !word.contains(is_rare))
+}
+
+/// The bytes of a file that must have no more than so many.
+pub fn read_whole(path: &OsStr, most: u64, what: &str) -> Result<Vec<u8>, Wrong> {
+    let bytes = read(path, most + 1)?;
+    if bytes.len() as u64 > most {
+        return Err(Wrong(format!("a {what} has at most {most} bytes")));
+    }
+    Ok(bytes)
 }
 
 /// The bytes of a file, at most so many.

@@ -27,7 +27,7 @@ fn texts_with_a_slash_are_texts() {
 
 /// Wrong calls, and what each is told.
 #[rustfmt::skip]
-const WRONG: [(&[&str], &str); 14] = [
+const WRONG: [(&[&str], &str); 27] = [
     (&[], "a command is missing"),
     (&["reed", "int"], "no command `reed`"),
     (&["read"], "a TEXT or --file ROW is missing"),
@@ -42,6 +42,19 @@ const WRONG: [(&[&str], &str); 14] = [
     (&["read", "--json", "--listing", "int"], "exclude each other"),
     (&["read", "--file", "lane.row", "int"], "one of TEXT"),
     (&["read", "--file", "lane.row", "--language", "c"], "the row file says what --language would"),
+    (&["match"], "a TABLE is missing"),
+    (&["match", "lane.rules"], "a TEXT or --file ROW is missing"),
+    (&["match", "lane.rules", "int", "long"], "`long` is one word too many"),
+    (&["match", "no-such.rules", "int"], "no-such.rules: "),
+    (&["match", "lane.rules", "--listing", "int"], "no option --listing"),
+    (&["match", "lane.rules", "lane.row"], "--file reads a row file"),
+    (&["match", "-", "-"], "standard input is read once"),
+    (&["match", "-", "--file", "-"], "standard input is read once"),
+    (&["overlaps"], "a TABLE is missing"),
+    (&["overlaps", "lane.rules", "lane.rules"], "`lane.rules` is one word too many"),
+    (&["table"], "a TABLE is missing"),
+    (&["table", "no-such.rules"], "no-such.rules: "),
+    (&["overlaps", "--standard", "c99", "lane.rules"], "no option --standard"),
 ];
 
 #[test]
@@ -76,6 +89,10 @@ fn input_that_is_no_utf_8_is_told() {
     assert!(call.status == 2 && call.err.contains("not UTF-8"));
     let call = called_with(&words, &vec![b' '; (1 << 20) + 1]);
     assert!(call.status == 2 && call.err.contains("at most 1048576 bytes"));
+    let words = ["overlaps", "-"].map(OsStr::new);
+    let call = called_with(&words, b"A\nB caf\xe9");
+    assert_eq!((call.status, call.out.as_str()), (2, ""));
+    assert_eq!(call.err, "type-name: -:2:6: expected UTF-8\n");
 }
 
 #[test]
@@ -84,6 +101,9 @@ fn help_is_no_fault() {
         &["--help"][..],
         &["help"],
         &["read", "--help"],
+        &["match", "--help"],
+        &["overlaps", "--help"],
+        &["table", "--help"],
         &["--version"],
     ] {
         let call = called(words);

@@ -1,3 +1,4 @@
 pub mod Numbers
+pub mod Overlap
 pub mod Laws
 pub mod Examples

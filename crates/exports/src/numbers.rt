@@ -2,8 +2,11 @@
 
 use rows::answer::Answer;
 use rows::answer::refusal_of;
+use rule_answers::matching::MatchAnswer;
+use rule_answers::overlap::OverlapAnswer;
 ghost use mathlib.Core.Path.{_≡_};
 ghost use Rattle.type_name.specs.AnswerNumbers.{answer-code, answer-numbers};
+ghost use Rattle.rule_answers.specs.AnswerNumbers.{match-code, match-numbers, overlap-code, overlap-numbers};
 ghost use Rattle.exports.specs.Numbers.{put-front};
 
 // As many of `numbers` as `array` has room for.
@@ -37,5 +40,51 @@ pub fn put_answer(array: &mut [u32], answer: Answer) -> u32
             put_front(array, &numbers);
             refusal.number
         }
+    }
+}
+
+// The same of the answer to a match.
+pub fn put_match(array: &mut [u32], answer: MatchAnswer) -> u32
+    ensures returned { λ r. ⌜ r ≡ match-code answer ⌝ }
+    ensures written { λ _. ⌜ now (array .exit) ≡ put-front (match-numbers answer) (now (array .entry)) ⌝ }
+{
+    match answer {
+        MatchAnswer::Matched {
+            nodes,
+            steps,
+            place,
+        } => {
+            let numbers = [0, nodes, steps, place];
+            put_front(array, &numbers);
+            0
+        }
+        MatchAnswer::Refused { error, steps } => put_answer(
+            array,
+            Answer::Refused { error, steps },
+        ),
+    }
+}
+
+// The same of the answer to a search for an overlap.
+pub fn put_overlap(array: &mut [u32], answer: OverlapAnswer) -> u32
+    ensures returned { λ r. ⌜ r ≡ overlap-code answer ⌝ }
+    ensures written { λ _. ⌜ now (array .exit) ≡ put-front (overlap-numbers answer) (now (array .entry)) ⌝ }
+{
+    match answer {
+        OverlapAnswer::Overlap {
+            earlier,
+            later,
+            bytes,
+        } => {
+            let numbers = [0, earlier, later, bytes];
+            put_front(array, &numbers);
+            0
+        }
+        OverlapAnswer::NoFurther => {
+            let numbers = [0, 0, 0, 0];
+            put_front(array, &numbers);
+            0
+        }
+        OverlapAnswer::Refused(error) => put_answer(array, Answer::Refused { error, steps: 0 }),
     }
 }

@@ -70,6 +70,8 @@ pub enum TypeNameError {
     AllowancePassed,
     NoTypeName,
     NotAvailableInProfile(Feature),
+    InvalidRuleTable,
+    NoRuleMatches,
 }
 
 pub enum Answer {
@@ -139,7 +141,7 @@ pub fn feature_detail(feature: Feature) -> u32
     }
 }
 
-// Document 01's table of refusals.
+// The table of refusals: document 01's, and document 02's new numbers.
 pub fn refusal_of(error: TypeNameError) -> Refusal
     ensures { λ r. ⌜ r ≡ refusalOf error ⌝ }
 {
@@ -175,5 +177,7 @@ pub fn refusal_of(error: TypeNameError) -> Refusal
         TypeNameError::NotAvailableInProfile(feature) => {
             detailed(40, NO_TOKEN, feature_detail(feature))
         }
+        TypeNameError::InvalidRuleTable => plain(50),
+        TypeNameError::NoRuleMatches => plain(51),
     }
 }

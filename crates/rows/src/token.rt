@@ -16,7 +16,7 @@ ghost use lib.ListN.{length};
 ghost use Rattle.rows.specs.Format.{bytes-of, token-length};
 ghost use Rattle.rows.specs.Records.{found, in-range, kind-at, length-at, length-fits, little-endian, word-fits, word-in};
 
-const LONGEST_WORD: usize = 255;
+pub const LONGEST_WORD: usize = 255;
 
 const LEAST_WORD_BYTE: u8 = 33;
 

@@ -6,7 +6,7 @@ use mathlib.Core.Bool.{Bool, true, false}
 use mathlib.Core.List.{List}
 use lib.ListN.{length, getD}
 use Rattle.rules.specs.Rules.{Rule, Winner, no-winner, wins}
-use Rattle.rules.specs.RuleTable.{RuleFound, no-rule, a-rule, no-table, a-table, at-items, table-of}
+use Rattle.rules.specs.RuleTable.{RuleFound, no-rule, a-rule, no-table, a-table, at-items, most-rules, table-of}
 use Rattle.rules.specs.Overlaps.{rule, FirstAfter, NoneAfter}
 use Rattle.rules.specs.Meeting.{rules-meet}
 use Rattle.rules.specs.ItemsStand.{RuleStands}
@@ -38,6 +38,7 @@ pub record RulesRead (table : List ℕ) (count : ℕ) (starts : List ℕ) : Type
   pub rules : List Rule
   pub is : table-of table ≡ a-table rules
   pub counted : length rules ≡ count
+  pub few : count ≤ most-rules
   pub room : count < length starts
   pub stand : RulesStand table starts rules
 

@@ -1,8 +1,11 @@
 // The sequence that is shown for two rules, as items in a lent buffer.
 
+use crate::items::AFTER_TWO;
 use crate::items::ANY;
 use crate::items::item_end;
 use crate::overlaps::item_counts;
+use crate::table::MOST_ITEMS;
+use rows::token::LONGEST_WORD;
 use text::put_bytes;
 ghost use mathlib.Core.Path.{_≡_};
 ghost use mathlib.Core.Bool.{_&&_};
@@ -12,6 +15,9 @@ ghost use Rattle.text.specs.Text.{Appended};
 ghost use Rattle.rules.specs.Overlaps.{items-bytes, longest-shown, shown, shown-item};
 ghost use Rattle.rules.specs.ItemsStand.{ItemRoom, ItemsRoom, OfItem, OfItems, OfRules, SomeItem, SomeRule, StandsSomewhere, counts};
 ghost use Rattle.rules.specs.RuleTable.{item-bytes};
+
+// Room for every sequence that is shown.
+pub const LONGEST_SHOWN: usize = MOST_ITEMS * (AFTER_TWO + LONGEST_WORD);
 
 // Puts the item that stands at a byte offset behind the first `at` bytes of the buffer.
 fn put_item(output: &mut [u8], at: usize, table: &[u8], item: usize) -> usize

@@ -13,7 +13,10 @@ ghost use Rattle.rules.specs.TableStands.{ReadsTable, is-rule, rule-read
 
 pub const MOST_RULES: usize = 256;
 
-const MOST_ITEMS: usize = 16;
+// Where each rule begins, and where the last one ends.
+pub const MOST_STARTS: usize = MOST_RULES + 1;
+
+pub const MOST_ITEMS: usize = 16;
 
 const RULE_KIND: usize = 272;
 

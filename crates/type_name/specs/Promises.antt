@@ -5,10 +5,12 @@ use Prim.Native.Nat.{ℕ, _*_, _≤_, _<_}
 use mathlib.Core.Path.{_≡_}
 use mathlib.Core.Logic.{_↔_}
 use mathlib.Core.List.{List, [], _∷_, map, List·Memᴰ}
-use lib.ListN.{length, take, drop}
+use lib.ListN.{length, take, drop, replicate}
 use Rattle.rows.specs.Kinds.{LeftParen, LeftBracket, ShiftRight}
 use Rattle.rows.specs.Format.{format, head-length, most-tokens, SameOrLater}
 use Rattle.rows.specs.Records.{RowToken, row, head, records-from, kinds-of}
+use Rattle.rows.specs.Refusals.{refusalOf}
+use Rattle.rows.specs.declared.answer.TypeNameError.{TypeNameError}
 use Rattle.rows.specs.declared.answer.Answer.{Answer}
 use Rattle.rows.specs.declared.answer.Answer.the-variants.{Accepted, Refused}
 use Rattle.rows.specs.declared.head.Head.{Head}
@@ -38,6 +40,15 @@ Numbered file before a = answer-numbers a ≡ answer-numbers (answer file (lengt
 -- "with the buffer's contents fixed in each case".
 abbrev pub Buffered : (file before after : List ℕ) → Type 0
 Buffered file before after = after ≡ final-buffer file before
+
+-- "Refusals 1 to 6": the last of them.
+abbrev pub last-untouched : ℕ
+last-untouched = 6
+
+-- "Refusals 1 to 6 don't touch the tree buffer; all others fill it with zeros."
+pub record RefusedBuffer (before after : List ℕ) (e : TypeNameError) : Type 0 where
+  pub kept : refusalOf e .number ≤ last-untouched → after ≡ before
+  pub zeroed : last-untouched < refusalOf e .number → after ≡ replicate (length before) 0
 
 -- ---- demand 3: "Whatever row is accepted, under whichever profile, flag and allowance and whatever the tree buffer held before"
 

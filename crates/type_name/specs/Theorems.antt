@@ -27,11 +27,11 @@ use Rattle.reader.specs.Laws.Openers as Openers
 use Rattle.reader.specs.Laws.WrittenOut.{kinds-in, Worded}
 use Rattle.reader.specs.Laws.WrittenOut as Writing
 use Rattle.type_name.specs.Answers.{accepted, answerOf, answer, final-buffer}
-use Rattle.type_name.specs.Promises.{Answered, Buffered, Promised}
+use Rattle.type_name.specs.Promises.{Answered, Buffered, RefusedBuffer, Promised}
 use Rattle.type_name.specs.StarredRows.{StarredRows}
 use Rattle.type_name.specs.StarredRows
 use Rattle.type_name.specs.Laws.Promised as Laws
-use Rattle.type_name.specs.Laws.Total.{numbers, RefusedBuffer}
+use Rattle.type_name.specs.Laws.Total.{numbers}
 use Rattle.type_name.specs.Laws.Total
 use Rattle.type_name.specs.Laws.OnlyThen.{Spent}
 use Rattle.type_name.specs.Laws.OnlyThen
@@ -53,9 +53,12 @@ starred-rows = StarredRows.starred-rows
 
 -- ---- total: every file and every buffer has one answer, since `answer` and `final-buffer` are functions of them
 
--- Every refusal has a number of document 01's table,
+-- Every refusal has a number of document 01's table or one of document 02's new ones, which this entry does not give,
 pub listed : (e : TypeNameError) → T (refusalOf e .number is-one-of numbers)
 listed = Total.listed
+
+pub up-to-40 : (file : List ℕ) (room : ℕ) (e : TypeNameError) (m : ℕ) → answer file room ≡ Refused e m → refusalOf e .number ≤ 40
+up-to-40 = Total.up-to-40
 
 -- "Refusals 1 to 6 don't touch the tree buffer; all others fill it with zeros",
 pub refused-buffer : (file before : List ℕ) (e : TypeNameError) (m : ℕ) → answer file (length before) ≡ Refused e m → RefusedBuffer before (final-buffer file before) e

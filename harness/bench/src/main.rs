@@ -12,6 +12,7 @@ use harness::token_list::{TokenList, TypeName, TypeNameError};
 use type_name::{ANSWER_LENGTH, type_name_read};
 
 mod classes;
+mod rules;
 mod stack;
 
 const HELP: &str = "\
@@ -25,6 +26,9 @@ bench CORPUS [--class TEXT]
     buffer is lent, of just the size that the row needs, with what the row before left in it.
 bench CORPUS --stack
     For each class the most bytes of stack that the proved reader takes for a row of it.
+bench CORPUS --rules
+    Time and instructions a row of type_name_match, beside type_name_read, on the accepted rows of the corpus with tables
+    of 32 rules; the time of all calls of type_name_overlap over the greatest tables; the most bytes of stack of both.
 ";
 
 /// A round goes over a class as often as the original gets through it in this time, and once more.
@@ -43,6 +47,8 @@ fn main() -> ExitCode {
         [corpus] => table(corpus, ""),
         [corpus, "--class", text] => table(corpus, text),
         [corpus, "--stack"] => stacks(corpus),
+        [corpus, "--rules"] => rules::table(corpus),
+        [corpus, "--rules-once", name] => rules::once(corpus, name),
         [corpus, "--once", reader, name] => once(corpus, reader, name),
         _ => Err(HELP.to_owned()),
     };
@@ -72,7 +78,8 @@ fn table(corpus: &str, text: &str) -> Result<(), String> {
         let times = columns(times(&rows, tokens));
         let mut counts = [0.0; 3];
         for (count, reader) in counts.iter_mut().zip(READERS) {
-            *count = counted(corpus, reader, &class.name)? as f64 / tokens as f64;
+            let once = [corpus, "--once", reader, &class.name];
+            *count = counted(&once)? as f64 / tokens as f64;
         }
         let counts = columns(counts);
         let number = rows.len();
@@ -92,7 +99,8 @@ fn columns([original, freed, proved]: [f64; 3]) -> String {
 
 fn stacks(corpus: &str) -> Result<(), String> {
     for class in classes::classes(corpus) {
-        println!("{}: {}", class.name, stack::most(class.rows()));
+        let most = stack::most(&class.rows(), type_name_read);
+        println!("{}: {most}", class.name);
     }
     Ok(())
 }
@@ -187,14 +195,15 @@ fn once(corpus: &str, reader: &str, name: &str) -> Result<(), String> {
 }
 
 /// The instructions that callgrind counts in one pass.
-fn counted(corpus: &str, reader: &str, name: &str) -> Result<u64, String> {
+fn counted(arguments: &[&str]) -> Result<u64, String> {
     let program = env::current_exe().map_err(|error| error.to_string())?;
     let run = Command::new("valgrind")
         .args(["--tool=callgrind", "--callgrind-out-file=/dev/null"])
         .arg("--toggle-collect=*original_reads*")
         .arg("--toggle-collect=*proved_reads*")
+        .arg("--toggle-collect=*proved_matches*")
         .arg(program)
-        .args([corpus, "--once", reader, name])
+        .args(arguments)
         .output()
         .map_err(|error| format!("valgrind: {error}"))?;
     let report = String::from_utf8_lossy(&run.stderr);

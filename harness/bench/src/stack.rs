@@ -5,9 +5,9 @@ use std::mem::MaybeUninit;
 use std::thread;
 
 use harness::format::{NUMBERS_PER_TOKEN, Row};
-use type_name::{ANSWER_LENGTH, type_name_read};
+use type_name::ANSWER_LENGTH;
 
-/// More than any row takes.
+/// More than any call takes.
 const PAINTED: usize = 512 * 1024;
 
 /// A thread's, with room for the painting.
@@ -15,22 +15,32 @@ const STACK: usize = 4 * PAINTED;
 
 const PAINT: u8 = 0xa5;
 
-/// The most bytes of stack that a call takes over these rows.
-pub fn most(rows: Vec<Row>) -> usize {
+/// The most bytes of stack that a call of an entry takes over these rows.
+pub fn most<R>(rows: &[Row], read: R) -> usize
+where
+    R: Fn(&[u8], &mut [u32], &mut [u32]) -> u32 + Send + 'static,
+{
+    let input = |row: &Row| {
+        let tree = vec![0; NUMBERS_PER_TOKEN * row.tokens.len()];
+        (row.write(), tree)
+    };
+    taken(rows.iter().map(input).collect(), move |(file, tree)| {
+        read(file, tree, &mut [0; ANSWER_LENGTH]);
+    })
+}
+
+/// The most bytes of stack that a call takes over these inputs.
+pub fn taken<T: Send + 'static>(
+    mut inputs: Vec<T>,
+    call: impl Fn(&mut T) + Send + 'static,
+) -> usize {
     let measuring = thread::Builder::new().stack_size(STACK).spawn(move || {
         let own = touched(|| ());
-        let of_row = |row: &Row| {
-            let file = row.write();
-            let mut tree = vec![0; NUMBERS_PER_TOKEN * row.tokens.len()];
-            let mut answer = [0; ANSWER_LENGTH];
-            touched(|| {
-                type_name_read(&file, &mut tree, &mut answer);
-            })
-        };
-        rows.iter().map(of_row).max().unwrap_or(own) - own
+        let of_input = |input: &mut T| touched(|| call(input));
+        inputs.iter_mut().map(of_input).max().unwrap_or(own) - own
     });
     let measured = measuring.expect("a thread").join();
-    measured.expect("no row takes more than is painted")
+    measured.expect("no input takes more than is painted")
 }
 
 /// The bytes that a call changes of the stack below it.

@@ -12,6 +12,7 @@ use harness::oracle;
 use type_name::{ANSWER_LENGTH, type_name_read};
 
 mod corpus;
+mod rules;
 
 const HELP: &str = "\
 side_by_side [--seed S] [--count N] [--style NAME]
@@ -22,6 +23,10 @@ side_by_side --exhaustive ALPHABET --longest N [--shortest N]
 side_by_side --corpus FILE [--verdicts FILE]
     The type names of a file (language, source and text, parted by tabs), lexed by the original's lexer: standard 255 and
     the latest with flag 1 and 0, the earliest with flag 1. Verdicts: what each name gets with standard 255 and flag 1.
+side_by_side --rules [--seed S] [--count N]
+    N calls or some more (default 100000, seed 1) for the rule that wins and for the pairs of rules that overlap, on tables
+    that are chosen, generated and damaged: the harness's model of rule tables and the proved library. Prints how often
+    each outcome was seen.
 ";
 
 /// What the buffer holds before a call.
@@ -29,6 +34,9 @@ const DIRT: u32 = 0xdead_beef;
 
 fn main() -> ExitCode {
     let options = Options(std::env::args().skip(1).collect());
+    if options.has("--rules") {
+        return rules(&options).unwrap_or_else(|message| wrong_use(&message));
+    }
     let mut tally = Tally::default();
     let done = if let Some(file) = options.value("--corpus") {
         corpus::compare(file, options.value("--verdicts"), &mut tally)
@@ -39,17 +47,23 @@ fn main() -> ExitCode {
     };
     match done {
         Ok(()) => tally.report(),
-        Err(message) => {
-            eprint!("side_by_side: {message}\n\n{HELP}");
-            ExitCode::FAILURE
-        }
+        Err(message) => wrong_use(&message),
     }
+}
+
+fn wrong_use(message: &str) -> ExitCode {
+    eprint!("side_by_side: {message}\n\n{HELP}");
+    ExitCode::FAILURE
 }
 
 /// The words behind the program's name.
 struct Options(Vec<String>);
 
 impl Options {
+    fn has(&self, name: &str) -> bool {
+        self.0.iter().any(|word| word == name)
+    }
+
     fn value(&self, name: &str) -> Option<&str> {
         let at = self.0.iter().position(|word| word == name)?;
         self.0.get(at + 1).map(String::as_str)
@@ -63,9 +77,19 @@ impl Options {
     }
 }
 
-fn generated(options: &Options, tally: &mut Tally) -> Result<(), String> {
+/// The seed and how many are asked for.
+fn seed_and_count(options: &Options) -> Result<(u64, usize), String> {
     let seed = options.number("--seed", Some(1))? as u64;
-    let count = options.number("--count", Some(100_000))?;
+    Ok((seed, options.number("--count", Some(100_000))?))
+}
+
+fn rules(options: &Options) -> Result<ExitCode, String> {
+    let (seed, count) = seed_and_count(options)?;
+    Ok(rules::compare(seed, count as u64))
+}
+
+fn generated(options: &Options, tally: &mut Tally) -> Result<(), String> {
+    let (seed, count) = seed_and_count(options)?;
     let cases = generate::cases(seed, options.value("--style")).ok_or("no such style")?;
     for case in cases.take(count) {
         tally.add(&case);
@@ -115,7 +139,7 @@ impl Tally {
         if numbers != answer.numbers() || returned != numbers[0] || tree != expected {
             self.differ += 1;
             if self.differ <= 10 {
-                let file: String = case.file.iter().map(|byte| format!("{byte:02x}")).collect();
+                let file = hex(&case.file);
                 let room = case.tree_len;
                 println!("differs: {file} room {room} original {answer} new {numbers:?}");
             }
@@ -135,10 +159,17 @@ impl Tally {
         println!("{}", answers.join(", "));
         println!("{} trees checked for structure", self.checked);
         println!("{} files, {} differ", self.files, self.differ);
-        if self.differ == 0 {
-            ExitCode::SUCCESS
-        } else {
-            ExitCode::FAILURE
-        }
+        verdict(self.differ)
     }
+}
+
+fn verdict(differ: u64) -> ExitCode {
+    match differ {
+        0 => ExitCode::SUCCESS,
+        _ => ExitCode::FAILURE,
+    }
+}
+
+fn hex(bytes: &[u8]) -> String {
+    bytes.iter().map(|byte| format!("{byte:02x}")).collect()
 }

@@ -1,10 +1,10 @@
-//! Rows from text, so that tests can be read. Each test uses a part of this.
+//! Rows from text and tables from items, so that tests can be read. Each test uses a part of this.
 
 #![allow(dead_code)]
 
 use type_name::{
-    CStandard, CppStandard, FortranStandard, Head, HostLanguageProfile, Refusal, Row,
-    StructureCheck, TokenKind, parse_type_name, tree_for,
+    CStandard, CppStandard, FortranStandard, Head, HostLanguageProfile, Item, Refusal, Row,
+    StructureCheck, Table, TokenKind, parse_type_name, tree_for,
 };
 
 /// An allowance that no row here comes near.
@@ -108,4 +108,22 @@ pub fn answer(head: Head, text: &str) -> Result<Accepted, Refusal> {
         nodes: tree.node_count(),
         steps: tree.steps(),
     })
+}
+
+pub fn table(rules: &[&[Item]]) -> Table {
+    let mut table = Table::new();
+    for rule in rules {
+        table.push(rule).expect("a rule");
+    }
+    table
+}
+
+/// `A list | any rest | rest | int`, for which winners and pairs were worked out by hand.
+pub fn worked_table() -> Table {
+    table(&[
+        &[Item::Word("A"), Item::List],
+        &[Item::Any, Item::Rest],
+        &[Item::Rest],
+        &[Item::Word("int")],
+    ])
 }

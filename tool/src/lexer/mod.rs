@@ -21,7 +21,6 @@ use std::ops::Range;
 use type_name::{HostLanguageProfile, Offset, RecordError, Row, TokenKind};
 
 use cursor::Cursor;
-pub use symbols::spelling;
 
 /// A token of a text.
 #[derive(Debug, Clone, PartialEq, Eq)]
@@ -98,6 +97,18 @@ pub fn push_all(row: &mut Row, tokens: &[Lexed]) -> Result<(), LexError> {
         })?;
     }
     Ok(())
+}
+
+/// How an operator or bracket is spelled, by a symbol if it can be; `Percent` and `Remainder` share theirs.
+pub fn spelling(kind: TokenKind) -> Option<&'static str> {
+    let symbol = symbols::all().find_map(|(symbol, known)| (known == kind).then_some(symbol));
+    symbol.or_else(|| dotted::spelling(kind))
+}
+
+/// The operators and brackets that are spelled so, in one language or another.
+pub fn spelled(text: &str) -> Vec<TokenKind> {
+    let symbols = symbols::all().filter_map(|(symbol, kind)| (symbol == text).then_some(kind));
+    symbols.chain(dotted::operator(text)).collect()
 }
 
 /// A text whose offsets do not fit has more tokens or longer words than a row may have; the reader tells.

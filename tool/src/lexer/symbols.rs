@@ -83,9 +83,8 @@ pub fn take(cursor: &mut Cursor) -> Result<TokenKind, LexError> {
     Ok(*kind)
 }
 
-/// How a kind is spelled, if it has one spelling; `Percent` and `Remainder` share theirs.
-pub fn spelling(kind: TokenKind) -> Option<&'static str> {
+/// All symbols of all languages, with their kinds.
+pub fn all() -> impl Iterator<Item = (&'static str, TokenKind)> {
     let symbols = SHARED.iter().chain(&C_FAMILY).chain(&FORTRAN);
-    let mut of_kind = symbols.filter(|(_, known)| *known == kind);
-    of_kind.next().map(|(symbol, _)| *symbol)
+    symbols.copied()
 }

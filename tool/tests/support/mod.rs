@@ -4,7 +4,7 @@
 
 use std::ffi::OsStr;
 use std::io::Write;
-use std::process::{Command, Stdio};
+use std::process::{Command, Output, Stdio};
 
 /// What a call came to.
 pub struct Called {
@@ -15,6 +15,16 @@ pub struct Called {
 
 /// Calls the tool with these words and this standard input, in the repository's folder of examples.
 pub fn called_with(words: &[&OsStr], input: &[u8]) -> Called {
+    let done = output(words, input);
+    Called {
+        status: done.status.code().expect("no signal ends the tool"),
+        out: String::from_utf8(done.stdout).expect("UTF-8"),
+        err: String::from_utf8(done.stderr).expect("UTF-8"),
+    }
+}
+
+/// The same, with the bytes that it prints.
+pub fn output(words: &[&OsStr], input: &[u8]) -> Output {
     let mut child = Command::new(env!("CARGO_BIN_EXE_type-name"))
         .args(words)
         .current_dir(concat!(env!("CARGO_MANIFEST_DIR"), "/../examples"))
@@ -25,17 +35,18 @@ pub fn called_with(words: &[&OsStr], input: &[u8]) -> Called {
         .expect("the tool runs");
     // A tool that does not read its input closes it.
     let _ = child.stdin.take().expect("a pipe").write_all(input);
-    let done = child.wait_with_output().expect("the tool ends");
-    Called {
-        status: done.status.code().expect("no signal ends the tool"),
-        out: String::from_utf8(done.stdout).expect("UTF-8"),
-        err: String::from_utf8(done.stderr).expect("UTF-8"),
-    }
+    child.wait_with_output().expect("the tool ends")
 }
 
 pub fn called(words: &[&str]) -> Called {
     let words: Vec<&OsStr> = words.iter().map(OsStr::new).collect();
     called_with(&words, b"")
+}
+
+/// Calls the tool with this table as its standard input.
+pub fn called_on(words: &[&str], table: &str) -> Called {
+    let words: Vec<&OsStr> = words.iter().map(OsStr::new).collect();
+    called_with(&words, table.as_bytes())
 }
 
 /// What `read` prints for an accepted name.

@@ -261,7 +261,7 @@ node-good group g = tt
 node-good list g = tt
 node-good any g = tt
 
-nodes-good : (is : List Item) → T (good-items is) → T (good-nodes (map node-of is))
+pub nodes-good : (is : List Item) → T (good-items is) → T (good-nodes (map node-of is))
 unfolding good-items good-nodes
 nodes-good [] g = tt
 nodes-good (i ∷ is) g =

@@ -220,7 +220,7 @@ one-ahead rs r no-table = refl
 one-ahead rs r (a-table rs′) = ap a-table (sym (append-assoc rs (r ∷ []) rs′))
 
 -- A rule that was found lies within the table.
-rule-within : (table : List ℕ) (at : ℕ) {r : Rule} → rule-at table at ≡ a-rule r → RuleStands table (at + rule-length table at) (at + at-items) r
+pub rule-within : (table : List ℕ) (at : ℕ) {r : Rule} → rule-at table at ≡ a-rule r → RuleStands table (at + rule-length table at) (at + at-items) r
 unfolding rule-at rule-head
 rule-within table at {r} e = by-if Whole (rule-head table at) formed (λ _ q. let clash : _≡_ {A = ℕ} 0 1 = ap found q in absurd (omega (arith, clash))) e
   where
@@ -298,6 +298,7 @@ module _ (table : List ℕ) where
       rules = l .so-far;
       is = l .is ∙ ap (ahead (l .so-far)) (rules-ended at (l .left) p) ∙ ap a-table (append-nil (l .so-far));
       counted = l .long;
+      few = omega (arith, l .counted);
       room = omega (arith, l .counted, l .room, l .kept);
       stand = l .stand;
     }

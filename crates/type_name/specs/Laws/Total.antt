@@ -16,7 +16,7 @@ use Rattle.rows.specs.Refusals.{refusalOf}
 use Rattle.rows.specs.Laws.Tests.{by-if}
 use Rattle.rows.specs.Laws.Numbered.{Between}
 use Rattle.rows.specs.declared.answer.TypeNameError.{TypeNameError}
-use Rattle.rows.specs.declared.answer.TypeNameError.the-variants.{FileTooLong, InvalidHead, UnknownProfile, InvalidRecord, TooManyRecords, ShortBuffer, Empty, UnexpectedClosingDelimiter, UnexpectedAngle, TopLevelComma, UnexpectedEndToken, UnclosedDelimiter, UnclosedAngle, MissingTypeWord, InvalidBoundaryToken, NestingLimitExceeded, UnterminatedGroup, MismatchedClosingDelimiter, UnexpectedTokenAfterTypeName, AllowancePassed, NoTypeName, NotAvailableInProfile}
+use Rattle.rows.specs.declared.answer.TypeNameError.the-variants.{FileTooLong, InvalidHead, UnknownProfile, InvalidRecord, TooManyRecords, ShortBuffer, Empty, UnexpectedClosingDelimiter, UnexpectedAngle, TopLevelComma, UnexpectedEndToken, UnclosedDelimiter, UnclosedAngle, MissingTypeWord, InvalidBoundaryToken, NestingLimitExceeded, UnterminatedGroup, MismatchedClosingDelimiter, UnexpectedTokenAfterTypeName, AllowancePassed, NoTypeName, NotAvailableInProfile, InvalidRuleTable, NoRuleMatches}
 use Rattle.rows.specs.declared.answer.Answer.the-variants.{Refused}
 use Rattle.prescan.specs.Prescan.{Scanned, passed, prescan}
 use Rattle.prescan.specs.Prescan
@@ -32,14 +32,15 @@ use Rattle.profile.specs.declared.profile.Lack.{Lack}
 use Rattle.profile.specs.declared.profile.Lack.the-variants.{Nothing, Lacks}
 use Rattle.type_name.specs.FileRow.{HeadRow, Outcome, untouched, passes, on-pass, file-row}
 use Rattle.type_name.specs.Answers.{RowAnswer, accepted, refused, on-tree, refusal-of, whole-row, tree-of, after-prescan, row-tree, structure-of, by-structure, by-profile, tree-checked, unlimited, row-steps, answer-within, answerOf, row-answer, outcome, answer-in, answer, filled, buffer-in, final-buffer}
+use Rattle.type_name.specs.Promises.{RefusedBuffer}
 use Rattle.type_name.specs.Laws.Fields.{is-refused, number-in, bounds, wider}
 use Rattle.type_name.specs.Laws.FileRow.{Comes, file-comes}
 
 -- ---- the numbers
 
--- The refusals of document 01's table.
+-- The refusals of document 01's table, and document 02's new numbers.
 abbrev pub numbers : List ℕ
-numbers = 1 ∷ 2 ∷ 3 ∷ 4 ∷ 5 ∷ 6 ∷ 10 ∷ 11 ∷ 12 ∷ 13 ∷ 14 ∷ 15 ∷ 16 ∷ 17 ∷ 18 ∷ 20 ∷ 21 ∷ 22 ∷ 23 ∷ 25 ∷ 30 ∷ 40 ∷ []
+numbers = 1 ∷ 2 ∷ 3 ∷ 4 ∷ 5 ∷ 6 ∷ 10 ∷ 11 ∷ 12 ∷ 13 ∷ 14 ∷ 15 ∷ 16 ∷ 17 ∷ 18 ∷ 20 ∷ 21 ∷ 22 ∷ 23 ∷ 25 ∷ 30 ∷ 40 ∷ 50 ∷ 51 ∷ []
 
 pub listed : (e : TypeNameError) → T (refusalOf e .number is-one-of numbers)
 unfolding _is-one-of_
@@ -65,10 +66,12 @@ listed UnexpectedTokenAfterTypeName = tt
 listed AllowancePassed = tt
 listed NoTypeName = tt
 listed (NotAvailableInProfile feature) = tt
+listed InvalidRuleTable = tt
+listed NoRuleMatches = tt
 
 -- ---- refusals up to 6 come before the row is read, the others after
 
-abbrev RowPlaced : RowAnswer → Type 0
+abbrev pub RowPlaced : RowAnswer → Type 0
 RowPlaced (accepted x m) = Unit {0}
 RowPlaced (refused e m) = Between 10 40 e
 
@@ -77,7 +80,7 @@ abbrev pub Unspent : RowAnswer → Type 0
 Unspent (accepted x m) = Unit {0}
 Unspent (refused e m) = Between 10 23 e ⊎ Between 30 40 e
 
-abbrev Placed : Outcome RowAnswer → Type 0
+abbrev pub Placed : Outcome RowAnswer → Type 0
 Placed (untouched e) = Between 1 6 e
 Placed (passes a) = RowPlaced a
 
@@ -141,16 +144,11 @@ read-placed file room (untouched e) c = c
 read-placed file room (passes r) c =
     row-placed (r .the-head .language) (r .the-head .standard) (r .the-head .flag) (kinds-of (r .tokens)) (words-of (r .tokens)) (r .the-head .allowance)
 
-outcome-placed : (file : List ℕ) (room : ℕ) → Placed (outcome file room)
+pub outcome-placed : (file : List ℕ) (room : ℕ) → Placed (outcome file room)
 unfolding outcome
 outcome-placed file room = read-placed file room (file-row format file room) (file-comes file room)
 
 -- ---- the buffer of a refused answer
-
--- "Refusals 1 to 6 don't touch the tree buffer; all others fill it with zeros."
-pub record RefusedBuffer (before after : List ℕ) (e : TypeNameError) : Type 0 where
-  pub kept : refusalOf e .number ≤ 6 → after ≡ before
-  pub zeroed : 6 < refusalOf e .number → after ≡ replicate (length before) 0
 
 none-less : (n : ℕ) → replicate {A = ℕ} (n - 0) 0 ≡ replicate n 0
 none-less n =
@@ -172,3 +170,17 @@ buffer-of before (passes (refused e′ n)) p e m q =
 pub refused-buffer : (file before : List ℕ) (e : TypeNameError) (m : ℕ) → answer file (length before) ≡ Refused e m → RefusedBuffer before (final-buffer file before) e
 unfolding answer final-buffer
 refused-buffer file before e m q = buffer-of before (outcome file (length before)) (outcome-placed file (length before)) e m q
+
+-- ---- which numbers this entry gives
+
+number-placed : (o : Outcome RowAnswer) → Placed o → (e : TypeNameError) (m : ℕ) → answer-in o ≡ Refused e m → refusalOf e .number ≤ 40
+unfolding answer-in
+number-placed (untouched e′) p e m q = omega (arith, ap number-in q, bounds 1 6 e′ p)
+number-placed (passes (accepted x n)) p e m q =
+    let clash : _≡_ {A = ℕ} 0 1 = ap is-refused q in
+    absurd (omega (arith, clash))
+number-placed (passes (refused e′ n)) p e m q = omega (arith, ap number-in q, bounds 10 40 e′ p)
+
+pub up-to-40 : (file : List ℕ) (room : ℕ) (e : TypeNameError) (m : ℕ) → answer file room ≡ Refused e m → refusalOf e .number ≤ 40
+unfolding answer
+up-to-40 file room e m q = number-placed (outcome file room) (outcome-placed file room) e m q

@@ -149,6 +149,18 @@ feature-detail-requires c κs = search needs
 detailed-requires-3 : tie.Need-detailed-requires-3
 detailed-requires-3 c κs = search needs
 
+enum-told-15 : tie.Need-enum-told-15
+enum-told-15 c = search needs
+
+plain-requires-15 : tie.Need-plain-requires-15
+plain-requires-15 c κs = search needs
+
+enum-told-16 : tie.Need-enum-told-16
+enum-told-16 c = search needs
+
+plain-requires-16 : tie.Need-plain-requires-16
+plain-requires-16 c κs = search needs
+
 returns : tie.Need-returns
 returns c = rw (c .before .enum-told .given .1) (c .plain .ensures)
 
@@ -215,6 +227,12 @@ returns-21 c = rw (c .before .enum-told14 .given .1) (c .plain14 .ensures)
 returns-22 : tie.Need-returns-22
 returns-22 c = rw (c .before .before .before .error8 .given .1) (rw (c .before .feature-detail .ensures) at (c .detailed3 .ensures))
 
+returns-23 : tie.Need-returns-23
+returns-23 c = rw (c .before .enum-told15 .given .1) (c .plain15 .ensures)
+
+returns-24 : tie.Need-returns-24
+returns-24 c = rw (c .before .enum-told16 .given .1) (c .plain16 .ensures)
+
 pub refusal-of-spec : {M : Type 1} → statement M
 refusal-of-spec =
     tie.close
@@ -265,6 +283,10 @@ refusal-of-spec =
     enum-known-error-8
     feature-detail-requires
     detailed-requires-3
+    enum-told-15
+    plain-requires-15
+    enum-told-16
+    plain-requires-16
     returns
     returns-2
     returns-3
@@ -286,4 +308,6 @@ refusal-of-spec =
     returns-19
     returns-20
     returns-21
-    returns-22)
+    returns-22
+    returns-23
+    returns-24)

@@ -1,0 +1,12 @@
+pub mod MatchAnswers
+pub mod MatchPromises
+pub mod MatchSays
+pub mod RowPlaces
+pub mod OverlapAnswers
+pub mod OverlapSays
+pub mod OverlapWalks
+pub mod AnswerNumbers
+pub mod Laws
+pub mod MatchTheorems
+pub mod OverlapTheorems
+pub mod Examples

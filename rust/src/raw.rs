@@ -1,0 +1,102 @@
+//! The C functions, safe to call.
+
+/// The C function, with slices for its pointers and lengths: returns 0 if accepted, else the refusal's number, and writes as
+/// many of the answer's [`ANSWER_LENGTH`](crate::ANSWER_LENGTH) numbers as there is room for.
+///
+/// For those who want the numbers themselves; all others call [`parse_type_name`](crate::parse_type_name).
+pub fn type_name_read(file: &[u8], tree: &mut [u32], answer: &mut [u32]) -> u32 {
+    // SAFETY: as slices, the three are aligned, valid for as long as they say and not null; two are `&mut`, so that none
+    // overlaps another and nobody else writes them meanwhile.
+    unsafe {
+        c::type_name_read(
+            file.as_ptr(),
+            file.len(),
+            tree.as_mut_ptr(),
+            tree.len(),
+            answer.as_mut_ptr(),
+            answer.len(),
+        )
+    }
+}
+
+/// The C function that also finds the rule that wins: returns and writes what [`type_name_read`] does, with the rule's place
+/// as the answer's last number.
+///
+/// For those who want the numbers themselves; all others call [`Table::winner`](crate::Table::winner).
+pub fn type_name_match(file: &[u8], rules: &[u8], tree: &mut [u32], answer: &mut [u32]) -> u32 {
+    // SAFETY: as in `type_name_read`; `file` and `rules` may overlap each other, since both are only read.
+    unsafe {
+        c::type_name_match(
+            file.as_ptr(),
+            file.len(),
+            rules.as_ptr(),
+            rules.len(),
+            tree.as_mut_ptr(),
+            tree.len(),
+            answer.as_mut_ptr(),
+            answer.len(),
+        )
+    }
+}
+
+/// The C function that finds the first pair of rules that overlap after the pair handed in: the answer is 0, the pair's
+/// places and how many bytes are shown in `sequence`, all 0 if there is no further pair, or a refusal.
+///
+/// For those who want the numbers themselves; all others call [`Table::overlaps`](crate::Table::overlaps).
+pub fn type_name_overlap(
+    rules: &[u8],
+    earlier: u32,
+    later: u32,
+    sequence: &mut [u8],
+    answer: &mut [u32],
+) -> u32 {
+    // SAFETY: as in `type_name_read`.
+    unsafe {
+        c::type_name_overlap(
+            rules.as_ptr(),
+            rules.len(),
+            earlier,
+            later,
+            sequence.as_mut_ptr(),
+            sequence.len(),
+            answer.as_mut_ptr(),
+            answer.len(),
+        )
+    }
+}
+
+/// As `include/type_name.h` declares them.
+mod c {
+    unsafe extern "C" {
+        pub fn type_name_read(
+            file: *const u8,
+            file_len: usize,
+            tree: *mut u32,
+            tree_len: usize,
+            answer: *mut u32,
+            answer_len: usize,
+        ) -> u32;
+
+        pub fn type_name_match(
+            file: *const u8,
+            file_len: usize,
+            rules: *const u8,
+            rules_len: usize,
+            tree: *mut u32,
+            tree_len: usize,
+            answer: *mut u32,
+            answer_len: usize,
+        ) -> u32;
+
+        pub fn type_name_overlap(
+            rules: *const u8,
+            rules_len: usize,
+            earlier: u32,
+            later: u32,
+            sequence: *mut u8,
+            sequence_len: usize,
+            answer: *mut u32,
+            answer_len: usize,
+        ) -> u32;
+    }
+}
