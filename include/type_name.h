@@ -295,7 +295,7 @@ uint32_t type_name_match(const uint8_t *file, size_t file_len,
  * TYPE_NAME_LONGEST_SEQUENCE bytes always do). No refusal touches `sequence`.
  *
  * Proved and left to the caller as with type_name_read. A call looks at 32,640 pairs at most; as measured, that takes some
- * 1 ms for 256 rules of four short words, and 0.2 s for 256 of the longest words, which differ at their ends.
+ * 1.5 ms for 256 rules of 16 token kinds, and 0.05 s for 256 of 16 of the longest words, all alike but for the last.
  * Stack, as measured: at most 7 KB. */
 uint32_t type_name_overlap(const uint8_t *rules, size_t rules_len,
                            uint32_t earlier, uint32_t later,

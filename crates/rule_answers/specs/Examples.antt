@@ -16,7 +16,7 @@ use Rattle.rules.specs.Rules.{word, list, any, Rule, winner, good-word, good-ki
 use Rattle.rules.specs.Seen.{seen}
 use Rattle.rules.specs.RuleTable.{table-of, rules-from, rule-at, rule-head, rule-length, items-from, rest-at, item-at, word-item, kind-item, with-item, with-rule, front}
 use Rattle.rules.specs.Overlaps.{shown, items-bytes, longest-shown}
-use Rattle.rule_answers.specs.MatchAnswers.{RuleAnswer, matched, by-table, match-answer, match-buffer}
+use Rattle.rule_answers.specs.MatchAnswers.{matched, by-table, match-answer, match-buffer}
 use Rattle.rule_answers.specs.OverlapAnswers.{shown-bytes}
 use Rattle.rule_answers.specs.AnswerNumbers.{match-numbers, match-code, overlap-numbers, overlap-code}
 use Rattle.rule_answers.specs.declared.matching.MatchAnswer.{MatchAnswer}

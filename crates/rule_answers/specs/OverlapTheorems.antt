@@ -100,6 +100,10 @@ module _ (rules : List ℕ) (rs : List Rule) (is : table-of rules ≡ a-table rs
   pub in-order : (e l : ℕ) (ps : List Places) → Calls rules e l ps → InOrder e l ps
   in-order e l ps = Walks.in-order rules is
 
-  -- The calls end, from every pair of numbers of 32 bits, if each is answered and lent 4,112 bytes.
+  -- The calls end, from every pair of numbers of 32 bits, if each is answered and lent 4,112 bytes,
   pub calls-end : CallsAnswered rules → (e l : ℕ) → e < 2 ^ 32 → l < 2 ^ 32 → (ps : List Places) × Calls rules e l ps
   calls-end = Walks.calls-end rules is
+
+-- and each can be.
+pub calls-answered : (rules : List ℕ) → CallsAnswered rules
+calls-answered = FirstPairs.calls-answered

@@ -10,7 +10,6 @@ use rules::table::MOST_STARTS;
 use rules::table::TableRead;
 use rules::table::read_table;
 use text::hand_over;
-ghost use mathlib.Core.Path.{_≡_};
 ghost use Prim.Native.Nat.{_<_};
 ghost use Rattle.rules.specs.TableStands.{OfTable, RulesRead};
 ghost use Rattle.rule_answers.specs.OverlapAnswers.{OverlapTold};

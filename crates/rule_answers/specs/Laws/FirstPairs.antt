@@ -7,16 +7,17 @@ use mathlib.Core.List.{List}
 use native.Mathlib.Omega.{arith}
 use native.Mathlib.Decide.{decLe}
 use native.Mathlib.Nat.{lt-of-not-le}
-use lib.ListN.{length}
+use lib.ListN.{length, replicate, length-replicate}
 use lib.Dec.{T}
 use Rattle.rows.specs.declared.answer.TypeNameError.the-variants.{InvalidRuleTable}
 use Rattle.text.specs.Text.{handed}
 use Rattle.rules.specs.Rules.{Rule, good-items}
 use Rattle.rules.specs.RuleTable.{TableFound, no-table, a-table, table-of}
-use Rattle.rules.specs.Overlaps.{rule, After, Pair, FirstAfter}
+use Rattle.rules.specs.Overlaps.{longest-shown, rule, After, Pair, FirstAfter}
 use Rattle.rules.specs.Meeting.{rules-meet}
 use Rattle.rules.specs.Laws.Overlaps.{overlap-found, overlap-meets}
 use Rattle.rule_answers.specs.OverlapAnswers.{shown-bytes, Reports, OverlapSays, OverlapTold}
+use Rattle.rule_answers.specs.OverlapWalks.{CallsAnswered}
 use Rattle.rule_answers.specs.OverlapSays.{pair-answer}
 use Rattle.rule_answers.specs.Laws.Overlaps.{items-good, pair-reports}
 use Rattle.rule_answers.specs.declared.overlap.OverlapAnswer.{OverlapAnswer}
@@ -99,3 +100,15 @@ some-answer rules e l before = by (table-of rules) refl
     by (a-table rs) q =
         let s = some-report rs (items-good rules q) e l before in
         (s .0, s .1, record { says = subst (λ (x : TableFound). OverlapSays x e l before (s .0) (s .1)) (sym q) (s .2) })
+
+-- So all calls that a walk makes can be answered.
+pub calls-answered : (rules : List ℕ) → CallsAnswered rules
+calls-answered rules =
+    let zeros : List ℕ = replicate longest-shown 0 in
+    record {
+      lent = λ e l. zeros;
+      room = λ e l. omega (arith, length-replicate {A = ℕ} longest-shown 0);
+      answer = λ e l. some-answer rules e l zeros .0;
+      final = λ e l. some-answer rules e l zeros .1;
+      told = λ e l p q. some-answer rules e l zeros .2;
+    }

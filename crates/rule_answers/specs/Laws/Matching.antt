@@ -17,7 +17,7 @@ use Rattle.rows.specs.declared.answer.Answer.the-variants as Answer
 use Rattle.rows.specs.declared.answer.TypeNameError.{TypeNameError}
 use Rattle.rows.specs.declared.answer.TypeNameError.the-variants.{InvalidRuleTable, NoRuleMatches}
 use Rattle.reader.specs.Nodes.{Nodes, count, node-width, records}
-use Rattle.reader.specs.Reading.{got, reading}
+use Rattle.reader.specs.Reading.{reading}
 use Rattle.reader.specs.ReaderSays.{TreeRead}
 use Rattle.reader.specs.Laws.Bounds.{nothing-left, two-nodes}
 use Rattle.reader.specs.Laws.Buffer.{holds}
@@ -25,7 +25,7 @@ use Rattle.reader.specs.Laws.NodeNumbers.{three-each}
 use Rattle.type_nodes.specs.Stands.{Stands, NodesStand}
 use Rattle.structure.specs.Laws.Trees.{tree-stands}
 use Rattle.type_name.specs.FileRow.{passes}
-use Rattle.type_name.specs.Answers.{RowAnswer, accepted, outcome, answer, final-buffer}
+use Rattle.type_name.specs.Answers.{accepted, outcome, answer}
 use Rattle.type_name.specs.Promises.{last-untouched, Promised}
 use Rattle.type_name.specs.Laws.Fields.{is-refused, nodes-in, number-in, one-row}
 use Rattle.type_name.specs.Laws.FileRow.{head-short}

@@ -2,11 +2,10 @@
 use Prim.Native.Nat.{ℕ, _-_, _≤_, _<_}
 use mathlib.Core.Path.{_≡_, refl, sym, ap, _∙_, subst}
 use mathlib.Core.Logic.{_↔_, _⊎_, inl, inr}
-use mathlib.Core.List.{List, []}
+use mathlib.Core.List.{List}
 use native.Mathlib.Omega.{arith}
 use native.Mathlib.Nat.{sub-zero}
 use lib.ListN.{length, replicate}
-use lib.Dec.{T}
 use Rattle.rows.specs.Format.{format}
 use Rattle.rows.specs.Records.{RowToken}
 use Rattle.rows.specs.Refusals.{refusalOf}

@@ -5,7 +5,7 @@ use mathlib.Core.List.{List}
 use native.Mathlib.Omega.{arith}
 use lib.ListN.{length, take, set, replicate, length-replicate}
 use Rattle.rows.specs.Format.{format, head-length, short-bytes, at-kind, most-tokens}
-use Rattle.rows.specs.Records.{RowToken, Row, row, refused, found, kind-at, length-at, little-endian, records-from}
+use Rattle.rows.specs.Records.{Row, row, refused, found, kind-at, length-at, little-endian, records-from}
 use Rattle.rows.specs.RowRead.{Room}
 use Rattle.rows.specs.Laws.Tokens.{Fits, formed-fits}
 use Rattle.rows.specs.Laws.RowLoop.{RowLoop, loop-begins, loop-full, loop-malformed, loop-token, loop-ends}

@@ -1,7 +1,7 @@
 -- Every list of bytes and every buffer has one answer, its number is one of document 01's, and a refused answer's buffer is as document 01 says.
 -- (That there is one answer is in the types: `answer` and `final-buffer` are functions of the file and the buffer, defined everywhere.)
 -- Assumes nothing.
-use Prim.Native.Nat.{ℕ, _-_, _≤_, _<_}
+use Prim.Native.Nat.{ℕ, _-_, _≤_}
 use mathlib.Core.Path.{_≡_, refl, ap}
 use mathlib.Core.Logic.{_⊎_, inl, inr}
 use mathlib.Core.List.{List, [], _∷_}
