@@ -251,7 +251,7 @@ enum type_name_delimiter {
  *
  * It calls memcpy and memset of the C library, allocates nothing and keeps no state, so that threads may call it at the
  * same time.
- * Stack, as measured: at most 10 KB for some 5,600 rows of real type names, 52 KB for 64 nested lists or groups with the
+ * Stack, as measured: at most 11 KB for some 5,600 rows of real type names, 52 KB for 64 nested lists or groups with the
  * structure check, the most that was seen. */
 uint32_t type_name_read(const uint8_t *file, size_t file_len,
                         uint32_t *tree, size_t tree_len,
