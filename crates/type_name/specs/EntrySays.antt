@@ -6,8 +6,7 @@ use mathlib.Core.Path.{_≡_}
 use mathlib.Core.List.{List, _++_}
 use lib.ListN.{length, take, replicate}
 use Rattle.rows.specs.Format.{format, most-tokens}
-use Rattle.rows.specs.Records.{RowToken, head}
-use Rattle.rows.specs.RowRead.{InArrays}
+use Rattle.rows.specs.Records.{RowToken, head, kinds-of, words-of}
 use Rattle.rows.specs.declared.answer.Answer.{Answer}
 use Rattle.rows.specs.declared.answer.Answer.the-variants.{Accepted, Refused}
 use Rattle.rows.specs.declared.answer.TypeNameError.the-variants.{AllowancePassed, NoTypeName, NotAvailableInProfile}
@@ -33,26 +32,27 @@ pub record HeadRead (file : List ℕ) (h : Head) : Type 0 where
   pub is : head format file ≡ Formed h
 
 -- What is lent to read a row into: arrays with room for the most tokens.
-pub record Arrays (kinds words places : List ℕ) : Type 0 where
+pub record Arrays (kinds words : List ℕ) : Type 0 where
   pub for-kinds : most-tokens ≤ length kinds
   pub for-words : most-tokens ≤ length words
-  pub for-places : most-tokens ≤ length places
 
-module _ (file : List ℕ) (room : ℕ) (kinds words places : List ℕ) where
-  -- The file has this head and a row of so many tokens, which stand in the arrays.
-  pub record FileRowTaken (h : Head) (count : ℕ) (kinds′ words′ places′ : List ℕ) : Type 0 where
+module _ (file : List ℕ) (room : ℕ) where
+  -- The file has this head and a row of so many tokens, whose kinds and word numbers stand in front of the arrays.
+  pub record FileRowTaken (h : Head) (count : ℕ) (kinds words : List ℕ) : Type 0 where
     pub taken : List RowToken
     pub is : file-row format file room ≡ passes (record { the-head = h; tokens = taken })
-    pub in-arrays : InArrays taken count kinds words places kinds′ words′ places′
+    pub is-count : count ≡ length taken
+    pub kinds-in : take count kinds ≡ kinds-of taken
+    pub words-in : take count words ≡ words-of taken
 
   -- Head and row, or the definition's refusal.
-  abbrev pub FileAnswered : FileRow → (kinds′ words′ places′ : List ℕ) → Type 0
-  FileAnswered (FileRow.Row h count) kinds′ words′ places′ = FileRowTaken h count kinds′ words′ places′
-  FileAnswered (FileRow.Refused e) kinds′ words′ places′ = file-row format file room ≡ untouched e
+  abbrev pub FileAnswered : FileRow → (kinds words : List ℕ) → Type 0
+  FileAnswered (FileRow.Row h count) kinds words = FileRowTaken h count kinds words
+  FileAnswered (FileRow.Refused e) kinds words = file-row format file room ≡ untouched e
 
-  -- `read_file`. What the arrays hold after a refusal is free.
-  pub record ReadsFile (r : FileRow) (kinds′ words′ places′ : List ℕ) : Type 0 where
-    pub answered : FileAnswered r kinds′ words′ places′
+  -- `read_file`. What the arrays hold behind the row, and after a refusal, is free.
+  pub record ReadsFile (r : FileRow) (kinds words : List ℕ) : Type 0 where
+    pub answered : FileAnswered r kinds words
 
 -- A row of at most 1,024 tokens, and a tree buffer that has room for it.
 pub record RowReady (kinds words tree : List ℕ) : Type 0 where

@@ -3,8 +3,7 @@
 use crate::buffer::settle;
 use crate::file_row::FileRow;
 use crate::file_row::read_file;
-use crate::tree::check_tree;
-use crate::tree::read_tree;
+use crate::tree::read_checked;
 use rows::answer::Answer;
 use rows::head::Head;
 use rows::row::MOST_TOKENS;
@@ -20,8 +19,7 @@ pub fn answer_row(head: Head, kinds: &[u8], words: &[u8], tree: &mut [u32]) -> A
     ensures answered { λ r. ⌜ r ≡ answer-in (passes (answerOf (head .language) (head .standard) (head .flag) (now (kinds .entry)) (now (words .entry)) (head .allowance))) ⌝ }
     ensures buffered { λ _. ⌜ now (tree .exit) ≡ buffer-in (now (tree .entry)) (passes (answerOf (head .language) (head .standard) (head .flag) (now (kinds .entry)) (now (words .entry)) (head .allowance))) ⌝ }
 {
-    let parsed = read_tree(head.language, kinds, tree, head.allowance);
-    let answer = check_tree(head, kinds, words, tree, parsed);
+    let answer = read_checked(head, kinds, words, tree);
     settle(tree, answer);
     answer
 }
@@ -39,9 +37,8 @@ pub fn parse_type_name(file: &[u8], tree: &mut [u32]) -> Answer
 {
     let mut kinds = [0u8; MOST_TOKENS];
     let mut words = [0u8; MOST_TOKENS];
-    let mut places = [0u32; MOST_TOKENS];
     let room = tree.len();
-    let row = read_file(file, room, &mut kinds, &mut words, &mut places);
+    let row = read_file(file, room, &mut kinds, &mut words);
     match row {
         FileRow::Refused(error) => Answer::Refused { error, steps: 0 },
         FileRow::Row { head, count } => answer_row(head, &kinds[..count], &words[..count], tree),

@@ -19,17 +19,11 @@ pub enum FileRow {
 }
 
 // The row of a file with this head, for a tree buffer of `room` numbers.
-fn read_records(
-    file: &[u8],
-    room: usize,
-    head: Head,
-    kinds: &mut [u8],
-    words: &mut [u8],
-    places: &mut [u32],
-) -> FileRow
-    requires { ⌜ HeadRead (now file) head × Arrays (now kinds) (now words) (now places) ⌝ }
-    ensures { λ r. ⌜ ReadsFile (now (file .entry)) room (now (kinds .entry)) (now (words .entry)) (now (places .entry)) r (now (kinds .exit)) (now (words .exit)) (now (places .exit)) ⌝ }
+fn read_records(file: &[u8], room: usize, head: Head, kinds: &mut [u8], words: &mut [u8]) -> FileRow
+    requires { ⌜ HeadRead (now file) head × Arrays (now kinds) (now words) ⌝ }
+    ensures { λ r. ⌜ ReadsFile (now (file .entry)) room r (now (kinds .exit)) (now (words .exit)) ⌝ }
 {
+    let mut places = [0u32; MOST_TOKENS];
     let row = read_row(
         current(),
         file,
@@ -37,7 +31,7 @@ fn read_records(
         MOST_TOKENS,
         kinds,
         words,
-        places,
+        &mut places,
     );
     match row {
         RowRead::Refused(error) => FileRow::Refused(error),
@@ -50,20 +44,14 @@ fn read_records(
     }
 }
 
-// Every entry reads its file by this: each token's kind, word number and byte offset stand in front of the arrays.
-pub fn read_file(
-    file: &[u8],
-    room: usize,
-    kinds: &mut [u8],
-    words: &mut [u8],
-    places: &mut [u32],
-) -> FileRow
-    requires { ⌜ Arrays (now kinds) (now words) (now places) ⌝ }
-    ensures { λ r. ⌜ ReadsFile (now (file .entry)) room (now (kinds .entry)) (now (words .entry)) (now (places .entry)) r (now (kinds .exit)) (now (words .exit)) (now (places .exit)) ⌝ }
+// Every entry reads its file by this: each token's kind and word number stand in front of the arrays.
+pub fn read_file(file: &[u8], room: usize, kinds: &mut [u8], words: &mut [u8]) -> FileRow
+    requires { ⌜ Arrays (now kinds) (now words) ⌝ }
+    ensures { λ r. ⌜ ReadsFile (now (file .entry)) room r (now (kinds .exit)) (now (words .exit)) ⌝ }
 {
     let read = read_head(current(), file);
     match read {
         FileHead::Refused(error) => FileRow::Refused(error),
-        FileHead::Formed(head) => read_records(file, room, head, kinds, words, places),
+        FileHead::Formed(head) => read_records(file, room, head, kinds, words),
     }
 }

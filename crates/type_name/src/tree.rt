@@ -19,8 +19,8 @@ ghost use lib.ListN.{length};
 ghost use Rattle.rows.specs.Format.{most-tokens};
 ghost use Rattle.reader.specs.Nodes.{numbers-per-token};
 ghost use Rattle.profile.specs.Profile.{missing-feature};
-ghost use Rattle.type_name.specs.Answers.{row-tree};
-ghost use Rattle.type_name.specs.EntrySays.{CheckReady, CheckSays, NodesReady, NodesSay, profile-answer, TreeSays};
+ghost use Rattle.type_name.specs.Answers.{answerOf, row-tree};
+ghost use Rattle.type_name.specs.EntrySays.{CheckReady, CheckSays, NodesReady, NodesSay, ReadsRow, RowReady, TreeSays, profile-answer};
 
 // Refusal 40, or the tree is accepted.
 fn check_profile(head: Head, kinds: &[u8], words: &[u8], nodes: u32, steps: u32) -> Answer
@@ -71,7 +71,7 @@ fn check_nodes(
 }
 
 // The answer to a row, from what its reading came to.
-pub fn check_tree(head: Head, kinds: &[u8], words: &[u8], tree: &[u32], parsed: Parsed) -> Answer
+fn check_tree(head: Head, kinds: &[u8], words: &[u8], tree: &[u32], parsed: Parsed) -> Answer
     requires { ⌜ CheckReady (now kinds) (now words) (head .allowance) parsed (now tree) ⌝ }
     ensures { λ r. ⌜ CheckSays head (now (kinds .entry)) (now (words .entry)) parsed (now (tree .entry)) r ⌝ }
 {
@@ -86,7 +86,7 @@ pub fn check_tree(head: Head, kinds: &[u8], words: &[u8], tree: &[u32], parsed: 
 }
 
 // A row's tree, in front of the buffer. The buffer is lent to the prescan for its stack.
-pub fn read_tree(language: u8, kinds: &[u8], tree: &mut [u32], allowance: u32) -> Parsed
+fn read_tree(language: u8, kinds: &[u8], tree: &mut [u32], allowance: u32) -> Parsed
     requires { ⌜ (length (now kinds) ≤ most-tokens) × (numbers-per-token * length (now kinds) ≤ length (now tree)) ⌝ }
     ensures { λ r. ⌜ TreeSays (now (kinds .entry)) allowance (row-tree language (now (kinds .entry))) r (now (tree .exit)) ⌝ }
 {
@@ -96,4 +96,13 @@ pub fn read_tree(language: u8, kinds: &[u8], tree: &mut [u32], allowance: u32) -
         Prescanned::Passed => {}
     }
     parse(kinds, language == languages::CPP, tree, allowance)
+}
+
+// The answer to a row for which the tree buffer has room, its tree in front of the buffer.
+pub fn read_checked(head: Head, kinds: &[u8], words: &[u8], tree: &mut [u32]) -> Answer
+    requires { ⌜ RowReady (now kinds) (now words) (now tree) ⌝ }
+    ensures { λ r. ⌜ ReadsRow (answerOf (head .language) (head .standard) (head .flag) (now (kinds .entry)) (now (words .entry)) (head .allowance)) r (now (tree .exit)) ⌝ }
+{
+    let parsed = read_tree(head.language, kinds, tree, head.allowance);
+    check_tree(head, kinds, words, tree, parsed)
 }

@@ -78,7 +78,7 @@ pub accepted-read : (language standard flag : ℕ) (kinds words : List ℕ) {x :
 accepted-read language standard flag kinds words r = subst (TreeComes language kinds) (r .is-read) (tree-comes language kinds)
 
 module _ (language standard flag : ℕ) (kinds words : List ℕ) where
-  abbrev RowComes : RowAnswer → Type 0
+  abbrev pub RowComes : RowAnswer → Type 0
   RowComes (accepted x m) = RowAccepted language standard flag kinds words x m
   RowComes (refused e m) = Unit {0}
 
@@ -104,7 +104,7 @@ module _ (language standard flag : ℕ) (kinds words : List ℕ) where
   unfolding answer-within
   limited-comes allowance a c = by-if RowComes (leb (row-steps a) allowance) (λ _. c) (λ _. tt)
 
-  row-comes : (allowance : ℕ) → RowComes (answerOf language standard flag kinds words allowance)
+  pub row-comes : (allowance : ℕ) → RowComes (answerOf language standard flag kinds words allowance)
   unfolding answerOf unlimited
   row-comes allowance = limited-comes allowance (tree-checked language standard flag kinds words (row-tree language kinds)) (checked-comes (row-tree language kinds) refl)
 

@@ -43,13 +43,12 @@ pub taken-few : {file : List ℕ} {begin most n : ℕ} {kinds words places kinds
     → Rows.RowTaken format file begin most kinds words places n kinds′ words′ places′ → n ≤ most
 taken-few {file} {begin} {most} r = omega (arith, few-tokens format file most begin (r .is), r .in-arrays .is-count)
 
-module _ {file : List ℕ} {room : ℕ} {kinds words places kinds′ words′ places′ : List ℕ} {r : FileRow} where
-  pub file-refused : {e : TypeNameError} → r ≡ FileRow.Refused e → ReadsFile file room kinds words places r kinds′ words′ places′ → file-row format file room ≡ untouched e
-  file-refused q h = subst (λ (c : FileRow). FileAnswered file room kinds words places c kinds′ words′ places′) q (h .answered)
+module _ {file : List ℕ} {room : ℕ} {kinds words : List ℕ} {r : FileRow} where
+  pub file-refused : {e : TypeNameError} → r ≡ FileRow.Refused e → ReadsFile file room r kinds words → file-row format file room ≡ untouched e
+  file-refused q h = subst (λ (c : FileRow). FileAnswered file room c kinds words) q (h .answered)
 
-  pub file-taken : {h : Head} {count : ℕ} → r ≡ FileRow.Row h count → ReadsFile file room kinds words places r kinds′ words′ places′
-      → FileRowTaken file room kinds words places h count kinds′ words′ places′
-  file-taken q h = subst (λ (c : FileRow). FileAnswered file room kinds words places c kinds′ words′ places′) q (h .answered)
+  pub file-taken : {h : Head} {count : ℕ} → r ≡ FileRow.Row h count → ReadsFile file room r kinds words → FileRowTaken file room h count kinds words
+  file-taken q h = subst (λ (c : FileRow). FileAnswered file room c kinds words) q (h .answered)
 
 -- ---- what is lent of the arrays
 
@@ -62,38 +61,37 @@ filled-front : (p : RowToken → ℕ) (ts : List RowToken) {before after : List 
 filled-front p ts {after = after} e f = ap (λ (k : ℕ). take k after) (e ∙ sym (as-many p ts)) ∙ f .front
 
 module _ {ts : List RowToken} {n : ℕ} {kinds words places kinds′ words′ places′ : List ℕ} (a : InArrays ts n kinds words places kinds′ words′ places′) where
-  kinds-front : take n kinds′ ≡ kinds-of ts
+  pub kinds-front : take n kinds′ ≡ kinds-of ts
   unfolding kinds-of
   kinds-front = filled-front _ ts (a .is-count) (a .kinds-filled)
 
-  words-front : take n words′ ≡ words-of ts
+  pub words-front : take n words′ ≡ words-of ts
   unfolding words-of
   words-front = filled-front _ ts (a .is-count) (a .words-filled)
 
-  kinds-many : length (take n kinds′) ≡ n
-  unfolding kinds-of
-  kinds-many = ap length kinds-front ∙ as-many _ ts ∙ sym (a .is-count)
-
-  words-many : length (take n words′) ≡ n
-  unfolding words-of
-  words-many = ap length words-front ∙ as-many _ ts ∙ sym (a .is-count)
-
 -- ---- the row that was taken
 
-module _ {file : List ℕ} {room : ℕ} {kinds words places kinds′ words′ places′ : List ℕ} {h : Head} {n : ℕ}
-    (r : FileRowTaken file room kinds words places h n kinds′ words′ places′) where
+module _ {file : List ℕ} {room : ℕ} {kinds words : List ℕ} {h : Head} {n : ℕ} (r : FileRowTaken file room h n kinds words) where
+  kinds-many : length (take n kinds) ≡ n
+  unfolding kinds-of
+  kinds-many = ap length (r .kinds-in) ∙ as-many _ (r .taken) ∙ sym (r .is-count)
+
+  words-many : length (take n words) ≡ n
+  unfolding words-of
+  words-many = ap length (r .words-in) ∙ as-many _ (r .taken) ∙ sym (r .is-count)
+
   abbrev has : Has file room (record { the-head = h; tokens = r .taken })
   has = subst (Comes file room) (r .is) (file-comes file room)
 
   pub counted : n ≤ most-tokens
-  counted = omega (arith, few-tokens format file most-tokens head-length (has .row-is), r .in-arrays .is-count)
+  counted = omega (arith, few-tokens format file most-tokens head-length (has .row-is), r .is-count)
 
-  pub row-ready : {tree : List ℕ} → room ≡ length tree → RowReady (take n kinds′) (take n words′) tree
+  pub row-ready : {tree : List ℕ} → room ≡ length tree → RowReady (take n kinds) (take n words) tree
   row-ready e =
       record {
-        few = omega (arith, kinds-many (r .in-arrays), counted);
-        worded = words-many (r .in-arrays) ∙ sym (kinds-many (r .in-arrays));
-        room = omega (arith, kinds-many (r .in-arrays), has .fits, r .in-arrays .is-count, e);
+        few = omega (arith, kinds-many, counted);
+        worded = words-many ∙ sym kinds-many;
+        room = omega (arith, kinds-many, has .fits, r .is-count, e);
       }
 
 -- ---- the promises
@@ -103,13 +101,9 @@ module _ (file before : List ℕ) where
   unfolding answer answer-in final-buffer buffer-in outcome on-pass
   untouched-told q = promised file before _ before (rw q refl) (rw q refl)
 
-  pub row-told : {h : Head} {n : ℕ} {kinds words places kinds′ words′ places′ after : List ℕ} {a : Answer}
-      → FileRowTaken file (length before) kinds words places h n kinds′ words′ places′
-      → a ≡ answer-in (passes (answerOf (h .language) (h .standard) (h .flag) (take n kinds′) (take n words′) (h .allowance)))
-      → after ≡ buffer-in before (passes (answerOf (h .language) (h .standard) (h .flag) (take n kinds′) (take n words′) (h .allowance)))
+  pub row-told : {h : Head} {n : ℕ} {kinds words after : List ℕ} {a : Answer} → FileRowTaken file (length before) h n kinds words
+      → a ≡ answer-in (passes (answerOf (h .language) (h .standard) (h .flag) (take n kinds) (take n words) (h .allowance)))
+      → after ≡ buffer-in before (passes (answerOf (h .language) (h .standard) (h .flag) (take n kinds) (take n words) (h .allowance)))
       → Promised file before a after
   unfolding answer final-buffer outcome on-pass row-answer
-  row-told r e f =
-      promised file before _ _
-      (rw (r .is, ← (kinds-front (r .in-arrays)), ← (words-front (r .in-arrays))) e)
-      (rw (r .is, ← (kinds-front (r .in-arrays)), ← (words-front (r .in-arrays))) f)
+  row-told r e f = promised file before _ _ (rw (r .is, ← (r .kinds-in), ← (r .words-in)) e) (rw (r .is, ← (r .kinds-in), ← (r .words-in)) f)

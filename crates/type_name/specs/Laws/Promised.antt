@@ -11,7 +11,7 @@ use lib.Dec.{eqb}
 use Rattle.rows.specs.Languages.{Cpp}
 use Rattle.rows.specs.Format.{format, head-length, most-tokens}
 use Rattle.rows.specs.Records.{RowToken, kinds-of, words-of}
-use Rattle.rows.specs.Laws.RowFacts.{good-row}
+use Rattle.rows.specs.Laws.RowFacts.{GoodTokens, good-row}
 use Rattle.rows.specs.declared.answer.Answer.{Answer}
 use Rattle.rows.specs.declared.answer.Answer.the-variants.{Accepted}
 use Rattle.prescan.specs.Laws.Pairs.{prescan-pairs}
@@ -30,7 +30,7 @@ use Rattle.type_name.specs.FileRow.{Outcome, untouched, passes}
 use Rattle.type_name.specs.Answers.{RowAnswer, accepted, refused, outcome, answer-in, answer, filled, buffer-in, final-buffer}
 use Rattle.type_name.specs.Promises.{Answered, Buffered, AcceptedAs, TreeDefined, BracketsOf, tokens-in, WrittenAs, Promised}
 use Rattle.type_name.specs.Laws.Fields.{is-refused, nodes-in, steps-in, one-row}
-use Rattle.type_name.specs.Laws.AcceptedRow.{RowRead, FileAccepted, accepted-read, accepted-file}
+use Rattle.type_name.specs.Laws.AcceptedRow.{RowRead, RowAccepted, FileAccepted, accepted-read, accepted-file}
 use Rattle.type_name.specs.Laws.RowTokens.{kinds-known, worded, same-kinds}
 use Rattle.type_name.specs.Laws.Stable.{comes-back}
 
@@ -78,24 +78,25 @@ module _ (file before : List ℕ) (a : Answer) (after : List ℕ) (answered : An
       let f = accepted-file file (length before) x steps is-read in
       subst (λ (us : List RowToken). FileAccepted file us x steps) (one-row _ (f .0) ts (f .1 .row-is) (p .row-read)) (f .1)
 
--- ---- what holds of the tree of an accepted file
+-- ---- what holds of the tree of an accepted row
 
-module _ (file : List ℕ) (ts : List RowToken) (x : Nodes) (steps : ℕ) (f : FileAccepted file ts x steps) where
+module _ (language standard flag : ℕ) (ts : List RowToken) (x : Nodes) (steps : ℕ) (good : GoodTokens ts)
+    (r : RowAccepted language standard flag (kinds-of ts) (words-of ts) x steps) where
   abbrev cpp : Bool
-  cpp = eqb (f .head-of .language) Cpp
+  cpp = eqb language Cpp
 
-  abbrev is-read : RowRead (f .head-of .language) (kinds-of ts) x (f .row-accepted .reading-steps)
-  is-read = accepted-read (f .head-of .language) (f .head-of .standard) (f .head-of .flag) (kinds-of ts) (words-of ts) (f .row-accepted)
+  abbrev is-read : RowRead language (kinds-of ts) x (r .reading-steps)
+  is-read = accepted-read language standard flag (kinds-of ts) (words-of ts) r
 
   known : KindsKnown (kinds-of ts)
-  known = kinds-known ts (good-row format file most-tokens head-length ts (f .row-is))
+  known = kinds-known ts good
 
-  nested : depth x ≤ MAX-NESTING-DEPTH
+  pub nested : depth x ≤ MAX-NESTING-DEPTH
   nested = nesting (kinds-of ts) cpp (is-read .reads)
 
-  brackets : BracketsOf (kinds-of ts) x
+  pub brackets : BracketsOf (kinds-of ts) x
   brackets =
-      let ps = prescan-pairs (f .head-of .language) (kinds-of ts) (is-read .scan) (is-read .scanned) in
+      let ps = prescan-pairs language (kinds-of ts) (is-read .scan) (is-read .scanned) in
       record {
         pairs = ps .0;
         paired = ps .1;
@@ -105,18 +106,23 @@ module _ (file : List ℕ) (ts : List RowToken) (x : Nodes) (steps : ℕ) (f : F
         below-each = below-each (kinds-of ts) known (ps .0) (ps .1) cpp (is-read .reads);
       }
 
-  written-as : WrittenAs (tokens-in ts) (kinds-of ts) x
+  pub written-as : WrittenAs (tokens-in ts) (kinds-of ts) x
   written-as =
-      let w = worded ts (good-row format file most-tokens head-length ts (f .row-is)) in
+      let w = worded ts good in
       let k : KindsKnown (kinds-in (tokens-in ts)) = rw (same-kinds ts) known in
-      let r : reading cpp (kinds-in (tokens-in ts)) ≡ got x (is-read .at) (is-read .half) (f .row-accepted .reading-steps) = rw (same-kinds ts) (is-read .reads) in
+      let reads : reading cpp (kinds-in (tokens-in ts)) ≡ got x (is-read .at) (is-read .half) (r .reading-steps) = rw (same-kinds ts) (is-read .reads) in
       record {
-        closing-angles-as-often = closing-angles-as-often (tokens-in ts) w k cpp r;
-        else-same = else-same (tokens-in ts) w k cpp r;
-        same-throughout = λ none. same-throughout (tokens-in ts) w k cpp r (rw (same-kinds ts) none);
+        closing-angles-as-often = closing-angles-as-often (tokens-in ts) w k cpp reads;
+        else-same = else-same (tokens-in ts) w k cpp reads;
+        same-throughout = λ none. same-throughout (tokens-in ts) w k cpp reads (rw (same-kinds ts) none);
       }
 
 -- ---- the clauses
+
+-- Of an accepted file: its row's.
+module _ (file : List ℕ) (ts : List RowToken) (x : Nodes) (steps : ℕ) (f : FileAccepted file ts x steps) where
+  abbrev of-row : {A : Type 0} → ((language standard flag : ℕ) → GoodTokens ts → RowAccepted language standard flag (kinds-of ts) (words-of ts) x steps → A) → A
+  of-row law = law (f .head-of .language) (f .head-of .standard) (f .head-of .flag) (good-row format file most-tokens head-length ts (f .row-is)) (f .row-accepted)
 
 pub promised : (file before : List ℕ) (a : Answer) (after : List ℕ) → Answered file before a → Buffered file before after → Promised file before a after
 promised file before a after answered buffered =
@@ -126,8 +132,8 @@ promised file before a after answered buffered =
       numbered = ap answer-numbers answered;
       buffered = buffered;
       tree-defined = tree-defined file before a after answered buffered;
-      nested = λ ts x steps p. nested file ts x steps (held ts x steps p);
-      brackets-paired = λ ts x steps p. brackets file ts x steps (held ts x steps p);
-      written-out = λ ts x steps p. written-as file ts x steps (held ts x steps p);
+      nested = λ ts x steps p. of-row file ts x steps (held ts x steps p) (λ l s f. nested l s f ts x steps);
+      brackets-paired = λ ts x steps p. of-row file ts x steps (held ts x steps p) (λ l s f. brackets l s f ts x steps);
+      written-out = λ ts x steps p. of-row file ts x steps (held ts x steps p) (λ l s f. written-as l s f ts x steps);
       stable = λ ts x steps p file′ before′ n. comes-back file file′ before′ ts x steps (held ts x steps p) n;
     }

@@ -18,7 +18,7 @@ use Rattle.rows.specs.Laws.Numbered.{Between}
 use Rattle.rows.specs.declared.answer.TypeNameError.{TypeNameError}
 use Rattle.rows.specs.declared.answer.TypeNameError.the-variants.{FileTooLong, InvalidHead, UnknownProfile, InvalidRecord, TooManyRecords, ShortBuffer, Empty, UnexpectedClosingDelimiter, UnexpectedAngle, TopLevelComma, UnexpectedEndToken, UnclosedDelimiter, UnclosedAngle, MissingTypeWord, InvalidBoundaryToken, NestingLimitExceeded, UnterminatedGroup, MismatchedClosingDelimiter, UnexpectedTokenAfterTypeName, AllowancePassed, NoTypeName, NotAvailableInProfile, InvalidRuleTable, NoRuleMatches}
 use Rattle.rows.specs.declared.answer.Answer.the-variants.{Refused}
-use Rattle.prescan.specs.Prescan.{Scanned, passed, prescan}
+use Rattle.prescan.specs.Prescan.{Scan, Scanned, passed, prescan}
 use Rattle.prescan.specs.Prescan
 use Rattle.prescan.specs.Laws.Numbered.{prescan-numbered}
 use Rattle.prescan.specs.Laws.Numbered
@@ -71,72 +71,95 @@ listed NoRuleMatches = tt
 
 -- ---- refusals up to 6 come before the row is read, the others after
 
-abbrev pub RowPlaced : RowAnswer → Type 0
-RowPlaced (accepted x m) = Unit {0}
-RowPlaced (refused e m) = Between 10 40 e
+-- A refusal with this number or a greater one, up to 40.
+abbrev pub PlacedFrom : (low : ℕ) → RowAnswer → Type 0
+PlacedFrom low (accepted x m) = Unit {0}
+PlacedFrom low (refused e m) = Between low 40 e
 
 -- The same without 25: of an answer under an allowance that suffices.
+abbrev pub UnspentFrom : (low : ℕ) → RowAnswer → Type 0
+UnspentFrom low (accepted x m) = Unit {0}
+UnspentFrom low (refused e m) = Between low 23 e ⊎ Between 30 40 e
+
+-- Of a row: from 10 on.
+abbrev pub RowPlaced : RowAnswer → Type 0
+RowPlaced = PlacedFrom 10
+
 abbrev pub Unspent : RowAnswer → Type 0
-Unspent (accepted x m) = Unit {0}
-Unspent (refused e m) = Between 10 23 e ⊎ Between 30 40 e
+Unspent = UnspentFrom 10
 
 abbrev pub Placed : Outcome RowAnswer → Type 0
 Placed (untouched e) = Between 1 6 e
 Placed (passes a) = RowPlaced a
 
-in-table : (e : TypeNameError) → Between 10 23 e ⊎ Between 30 40 e → Between 10 40 e
-in-table e (inl q) = wider 10 23 10 40 (omega arith) (omega arith) e q
-in-table e (inr q) = wider 30 40 10 40 (omega arith) (omega arith) e q
+-- What comes after the prescan is refused from 20 on.
+module _ (low : ℕ) (l : low ≤ 20) where
+  in-table : (e : TypeNameError) → Between low 23 e ⊎ Between 30 40 e → Between low 40 e
+  in-table e (inl q) = wider low 23 low 40 (omega arith) (omega arith) e q
+  in-table e (inr q) = wider 30 40 low 40 (omega (arith, l)) (omega arith) e q
 
-unspent-placed : (a : RowAnswer) → Unspent a → RowPlaced a
-unspent-placed (accepted x m) p = tt
-unspent-placed (refused e m) p = in-table e p
+  unspent-placed : (a : RowAnswer) → UnspentFrom low a → PlacedFrom low a
+  unspent-placed (accepted x m) p = tt
+  unspent-placed (refused e m) p = in-table e p
 
-limited-placed : (allowance : ℕ) (a : RowAnswer) → Unspent a → RowPlaced (answer-within allowance a)
-unfolding answer-within
-limited-placed allowance a p = by-if RowPlaced (leb (row-steps a) allowance) (λ _. unspent-placed a p) (λ _. tt)
+  limited-placed : (allowance : ℕ) (a : RowAnswer) → UnspentFrom low a → PlacedFrom low (answer-within allowance a)
+  unfolding answer-within
+  limited-placed allowance a p =
+      by-if (PlacedFrom low) (leb (row-steps a) allowance) (λ _. unspent-placed a p) (λ _. wider 25 25 low 40 (omega (arith, l)) (omega arith) AllowancePassed tt)
 
-fault-unspent : (e : Fault) (m : ℕ) → FaultNumbered e → Unspent (refused (refusal-of e) m)
-unfolding refusal-of
-fault-unspent (refusal e) m p = inl (wider 20 22 10 23 (omega arith) (omega arith) e p)
-fault-unspent no-list m p = inl tt
+  fault-unspent : (e : Fault) (m : ℕ) → FaultNumbered e → UnspentFrom low (refused (refusal-of e) m)
+  unfolding refusal-of
+  fault-unspent (refusal e) m p = inl (wider 20 22 low 23 l (omega arith) e p)
+  fault-unspent no-list m p = inl (wider 23 23 low 23 (omega (arith, l)) (omega arith) UnexpectedTokenAfterTypeName tt)
 
-tree-unspent : (kinds : List ℕ) (g : Got) → Read.Numbered g → Unspent (tree-of kinds g)
-unfolding tree-of
-tree-unspent kinds (bad e m) p = fault-unspent e m p
-tree-unspent kinds (got x at half m) p = by-if Unspent (whole-row kinds at half) (λ _. tt) (λ _. inl tt)
+  tree-unspent : (kinds : List ℕ) (g : Got) → Read.Numbered g → UnspentFrom low (tree-of kinds g)
+  unfolding tree-of
+  tree-unspent kinds (bad e m) p = fault-unspent e m p
+  tree-unspent kinds (got x at half m) p =
+      by-if (UnspentFrom low) (whole-row kinds at half) (λ _. tt) (λ _. inl (wider 23 23 low 23 (omega (arith, l)) (omega arith) UnexpectedTokenAfterTypeName tt))
+
+  structure-unspent : (x : Nodes) (m : ℕ) (s : Said) → UnspentFrom low (by-structure x m s)
+  unfolding by-structure
+  structure-unspent x m (holds n) = tt
+  structure-unspent x m (fails n) = inr tt
+
+  profile-unspent : (x : Nodes) (m : ℕ) (k : Lack) → UnspentFrom low (by-profile x m k)
+  unfolding by-profile
+  profile-unspent x m Nothing = tt
+  profile-unspent x m (Lacks f) = inr tt
+
+  next-unspent : (a : RowAnswer) (next : Nodes → ℕ → RowAnswer) → UnspentFrom low a → ((x : Nodes) (m : ℕ) → UnspentFrom low (next x m)) → UnspentFrom low (on-tree a next)
+  unfolding on-tree
+  next-unspent (accepted x m) next p q = q x m
+  next-unspent (refused e m) next p q = p
+
+  checked-unspent : (language standard flag : ℕ) (kinds words : List ℕ) (a : RowAnswer) → UnspentFrom low a → UnspentFrom low (tree-checked language standard flag kinds words a)
+  unfolding tree-checked
+  checked-unspent language standard flag kinds words a p =
+      next-unspent _ _ (next-unspent a _ p (λ x m. structure-unspent x m (structure-of language flag kinds words x))) (λ x m. profile-unspent x m (missing-feature language standard kinds words))
 
 module _ (language standard flag : ℕ) (kinds words : List ℕ) where
   prescan-unspent : (r : Scanned) → Numbered.Numbered r → Unspent (after-prescan language kinds r)
   unfolding after-prescan
   prescan-unspent (Prescan.refused e) p = inl (wider 10 18 10 23 (omega arith) (omega arith) e p)
-  prescan-unspent (passed s) p = tree-unspent kinds (reading (eqb language Cpp) kinds) (reading-numbered (eqb language Cpp) kinds)
-
-  structure-unspent : (x : Nodes) (m : ℕ) (s : Said) → Unspent (by-structure x m s)
-  unfolding by-structure
-  structure-unspent x m (holds n) = tt
-  structure-unspent x m (fails n) = inr tt
-
-  profile-unspent : (x : Nodes) (m : ℕ) (l : Lack) → Unspent (by-profile x m l)
-  unfolding by-profile
-  profile-unspent x m Nothing = tt
-  profile-unspent x m (Lacks f) = inr tt
-
-  next-unspent : (a : RowAnswer) (next : Nodes → ℕ → RowAnswer) → Unspent a → ((x : Nodes) (m : ℕ) → Unspent (next x m)) → Unspent (on-tree a next)
-  unfolding on-tree
-  next-unspent (accepted x m) next p q = q x m
-  next-unspent (refused e m) next p q = p
+  prescan-unspent (passed s) p = tree-unspent 10 (omega arith) kinds (reading (eqb language Cpp) kinds) (reading-numbered (eqb language Cpp) kinds)
 
   pub unlimited-unspent : Unspent (unlimited language standard flag kinds words)
-  unfolding unlimited tree-checked row-tree
+  unfolding unlimited row-tree
   unlimited-unspent =
-      next-unspent _ _
-      (next-unspent (row-tree language kinds) _ (prescan-unspent (prescan language kinds) (prescan-numbered language kinds)) (λ x m. structure-unspent x m (structure-of language flag kinds words x)))
-      (λ x m. profile-unspent x m (missing-feature language standard kinds words))
+      checked-unspent 10 (omega arith) language standard flag kinds words (row-tree language kinds) (prescan-unspent (prescan language kinds) (prescan-numbered language kinds))
 
-  row-placed : (allowance : ℕ) → RowPlaced (answerOf language standard flag kinds words allowance)
+  pub row-placed : (allowance : ℕ) → RowPlaced (answerOf language standard flag kinds words allowance)
   unfolding answerOf
-  row-placed allowance = limited-placed allowance (unlimited language standard flag kinds words) unlimited-unspent
+  row-placed allowance = limited-placed 10 (omega arith) allowance (unlimited language standard flag kinds words) unlimited-unspent
+
+  -- A row that passes the prescan is refused from 20 on.
+  pub read-placed-from : (s : Scan) → prescan language kinds ≡ passed s → (allowance : ℕ) → PlacedFrom 20 (answerOf language standard flag kinds words allowance)
+  unfolding answerOf unlimited row-tree after-prescan
+  read-placed-from s q allowance =
+      limited-placed 20 (omega arith) allowance (unlimited language standard flag kinds words)
+      (checked-unspent 20 (omega arith) language standard flag kinds words (row-tree language kinds)
+      (rw q (tree-unspent 20 (omega arith) kinds (reading (eqb language Cpp) kinds) (reading-numbered (eqb language Cpp) kinds))))
 
 read-placed : (file : List ℕ) (room : ℕ) (o : Outcome HeadRow) → Comes file room o → Placed (on-pass o λ r. passes (row-answer r))
 unfolding on-pass row-answer

@@ -18,11 +18,8 @@ slice-aggregate-read-file c = search needs
 slice-aggregate-read-file-2 : tie.Need-slice-aggregate-read-file-2
 slice-aggregate-read-file-2 c = search needs
 
-slice-aggregate-read-file-3 : tie.Need-slice-aggregate-read-file-3
-slice-aggregate-read-file-3 c = search needs
-
 read-file-requires : tie.Need-read-file-requires
-read-file-requires c κs = record { for-kinds = omega arith; for-words = omega arith; for-places = omega arith }
+read-file-requires c κs = record { for-kinds = omega arith; for-words = omega arith }
 
 enum-known-row : tie.Need-enum-known-row
 enum-known-row c = search needs
@@ -31,29 +28,29 @@ enum-known-row-2 : tie.Need-enum-known-row-2
 enum-known-row-2 c = search needs
 
 array-share-prefix-kinds : tie.Need-array-share-prefix-kinds
-array-share-prefix-kinds c = let k = counted (file-taken (c .before .row2 .given .1) (c .before .before .before .before .before .before .read-file .ensures)) in omega arith
+array-share-prefix-kinds c = let k = counted (file-taken (c .before .row2 .given .1) (c .before .before .before .before .before .read-file .ensures)) in omega arith
 
 slice-aggregate-answer-row : tie.Need-slice-aggregate-answer-row
-slice-aggregate-answer-row c = let k = counted (file-taken (c .before .before .row2 .given .1) (c .before .before .before .before .before .before .before .read-file .ensures)) in simp length-take (omega arith)
+slice-aggregate-answer-row c = let k = counted (file-taken (c .before .before .row2 .given .1) (c .before .before .before .before .before .before .read-file .ensures)) in simp length-take (omega arith)
 
 array-share-prefix-words : tie.Need-array-share-prefix-words
-array-share-prefix-words c = let k = counted (file-taken (c .before .before .row2 .given .1) (c .before .before .before .before .before .before .before .read-file .ensures)) in omega arith
+array-share-prefix-words c = let k = counted (file-taken (c .before .before .row2 .given .1) (c .before .before .before .before .before .before .read-file .ensures)) in omega arith
 
 slice-aggregate-answer-row-2 : tie.Need-slice-aggregate-answer-row-2
-slice-aggregate-answer-row-2 c = let k = counted (file-taken (c .before .before .before .row2 .given .1) (c .before .before .before .before .before .before .before .before .read-file .ensures)) in simp length-take (omega arith)
+slice-aggregate-answer-row-2 c = let k = counted (file-taken (c .before .before .before .row2 .given .1) (c .before .before .before .before .before .before .before .read-file .ensures)) in simp length-take (omega arith)
 
 answer-row-requires : tie.Need-answer-row-requires
-answer-row-requires c κs = row-ready (file-taken (c .before .before .before .before .row2 .given .1) (c .before .before .before .before .before .before .before .before .before .read-file .ensures)) refl
+answer-row-requires c κs = row-ready (file-taken (c .before .before .before .before .row2 .given .1) (c .before .before .before .before .before .before .before .before .read-file .ensures)) refl
 
 returns : tie.Need-returns
-returns c = let p = untouched-told (c .before .before .before .before .before .before .before .before .before .before .before .before .args .file .now) (c .before .before .before .before .before .before .before .before .before .before .before .before .args .tree .now) (file-refused (c .before .row .given .1) (c .before .before .before .before .before .before .read-file .ensures)) in
+returns c = let p = untouched-told (c .before .before .before .before .before .before .before .before .before .before .args .file .now) (c .before .before .before .before .before .before .before .before .before .before .args .tree .now) (file-refused (c .before .row .given .1) (c .before .before .before .before .before .read-file .ensures)) in
     (p .answered, (p .numbered, (p .buffered, (p .tree-defined, (p .nested, (p .brackets-paired, (p .written-out, p .stable)))))))
 
 same-length : tie.Need-same-length
 same-length c = search needs
 
 returns-2 : tie.Need-returns-2
-returns-2 c = let p = row-told (c .before .before .before .before .before .before .before .before .before .before .before .before .before .before .before .before .before .before .args .file .now) (c .before .before .before .before .before .before .before .before .before .before .before .before .before .before .before .before .before .before .args .tree .now) (file-taken (c .before .before .before .before .before .before .before .row2 .given .1) (c .before .before .before .before .before .before .before .before .before .before .before .before .read-file .ensures)) (c .before .before .answer-row .ensures .0) (c .before .before .answer-row .ensures .1) in
+returns-2 c = let p = row-told (c .before .before .before .before .before .before .before .before .before .before .before .before .before .before .before .before .args .file .now) (c .before .before .before .before .before .before .before .before .before .before .before .before .before .before .before .before .args .tree .now) (file-taken (c .before .before .before .before .before .before .before .row2 .given .1) (c .before .before .before .before .before .before .before .before .before .before .before .read-file .ensures)) (c .before .before .answer-row .ensures .0) (c .before .before .answer-row .ensures .1) in
     (p .answered, (p .numbered, (p .buffered, (p .tree-defined, (p .nested, (p .brackets-paired, (p .written-out, p .stable)))))))
 
 pub parse-type-name-spec : {M : Type 1} → statement M
@@ -62,7 +59,6 @@ parse-type-name-spec =
     (tie.spec
     slice-aggregate-read-file
     slice-aggregate-read-file-2
-    slice-aggregate-read-file-3
     read-file-requires
     enum-known-row
     enum-known-row-2

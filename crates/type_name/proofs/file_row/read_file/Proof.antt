@@ -25,10 +25,10 @@ enum-known-read-2 : tie.Need-enum-known-read-2
 enum-known-read-2 c = search needs
 
 read-records-requires : tie.Need-read-records-requires
-read-records-requires c κs = (record { is = sym (rw (c .before .before .before .before .before .before .before .current .ensures) at (c .before .before .before .before .before .before .read-head .ensures)) ∙ c .before .before .before .before .read2 .given .1 }, c .before .before .before .before .before .before .before .before .before .before .before .before .pre)
+read-records-requires c κs = (record { is = sym (rw (c .before .before .before .before .before .before .current .ensures) at (c .before .before .before .before .before .read-head .ensures)) ∙ c .before .before .before .read2 .given .1 }, c .before .before .before .before .before .before .before .before .before .before .pre)
 
 returns : tie.Need-returns
-returns c = record { answered = head-refused (c .before .before .before .before .before .before .before .before .before .args .file .now) (c .before .before .before .before .before .before .before .before .before .args .room) (sym (rw (c .before .before .before .before .current .ensures) at (c .before .before .before .read-head .ensures)) ∙ c .before .read .given .1) }
+returns c = record { answered = head-refused (c .before .before .before .before .before .before .before .before .args .file .now) (c .before .before .before .before .before .before .before .before .args .room) (sym (rw (c .before .before .before .before .current .ensures) at (c .before .before .before .read-head .ensures)) ∙ c .before .read .given .1) }
 
 same-length : tie.Need-same-length
 same-length c = search needs
@@ -36,11 +36,8 @@ same-length c = search needs
 same-length-2 : tie.Need-same-length-2
 same-length-2 c = search needs
 
-same-length-3 : tie.Need-same-length-3
-same-length-3 c = search needs
-
 returns-2 : tie.Need-returns-2
-returns-2 c = c .before .before .before .before .before .before .read-records .ensures
+returns-2 c = c .before .before .before .before .read-records .ensures
 
 pub read-file-spec : {M : Type 1} → statement M
 read-file-spec =
@@ -54,5 +51,4 @@ read-file-spec =
     returns
     same-length
     same-length-2
-    same-length-3
     returns-2)
