@@ -4,9 +4,11 @@ use rows::answer::Answer;
 use rows::answer::refusal_of;
 use rule_answers::matching::MatchAnswer;
 use rule_answers::overlap::OverlapAnswer;
+use type_list::answer::ListAnswer;
 ghost use mathlib.Core.Path.{_≡_};
 ghost use Rattle.type_name.specs.AnswerNumbers.{answer-code, answer-numbers};
 ghost use Rattle.rule_answers.specs.AnswerNumbers.{match-code, match-numbers, overlap-code, overlap-numbers};
+ghost use Rattle.type_list.specs.AnswerNumbers.{list-code, list-numbers};
 ghost use Rattle.exports.specs.Numbers.{put-front};
 
 // As many of `numbers` as `array` has room for.
@@ -86,5 +88,29 @@ pub fn put_overlap(array: &mut [u32], answer: OverlapAnswer) -> u32
             0
         }
         OverlapAnswer::Refused(error) => put_answer(array, Answer::Refused { error, steps: 0 }),
+    }
+}
+
+// The same of the answer to a list of types.
+pub fn put_list(array: &mut [u32], answer: ListAnswer) -> u32
+    ensures returned { λ r. ⌜ r ≡ list-code answer ⌝ }
+    ensures written { λ _. ⌜ now (array .exit) ≡ put-front (list-numbers answer) (now (array .entry)) ⌝ }
+{
+    match answer {
+        ListAnswer::Accepted {
+            parts,
+            nodes,
+            steps,
+        } => {
+            let numbers = [0, nodes, steps, 0, parts];
+            put_front(array, &numbers);
+            0
+        }
+        ListAnswer::Refused { error, steps, part } => {
+            let refusal = refusal_of(error);
+            let numbers = [refusal.number, refusal.token, refusal.detail, steps, part];
+            put_front(array, &numbers);
+            refusal.number
+        }
     }
 }

@@ -1,0 +1,9 @@
+pub mod Slices
+pub mod Commas
+pub mod Cuts
+pub mod PartAnswers
+pub mod Loop
+pub mod ListEntry
+pub mod Starts
+pub mod Promised
+pub mod AsRead

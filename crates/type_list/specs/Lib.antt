@@ -1,0 +1,9 @@
+pub mod Parts
+pub mod Cutting
+pub mod ListAnswers
+pub mod AnswerNumbers
+pub mod ListSays
+pub mod ListPromises
+pub mod Laws
+pub mod Theorems
+pub mod Examples
