@@ -1,6 +1,7 @@
-/* Reads type names: a file of token records in, a tree of node records or a numbered refusal out; and says which rule of a
- * table wins for a type name, and which rules overlap. docs/FORMAT.md describes the files, the tree and the refusals, with
- * examples; examples/build.c and examples/rules.c are programs that use all of this. */
+/* Reads type names, one or a comma list of them: a file of token records in, trees of node records or a numbered refusal
+ * out; and says which rule of a table wins for a type name, and which rules overlap. docs/FORMAT.md describes the files, the
+ * tree and the refusals, with examples; examples/build.c, examples/list.c and examples/rules.c are programs that use all of
+ * this. */
 #ifndef TYPE_NAME_H
 #define TYPE_NAME_H
 
@@ -34,7 +35,9 @@ extern "C" {
 #define TYPE_NAME_NUMBERS_PER_TOKEN 6 /* numbers of `tree` that a row needs for each token */
 #define TYPE_NAME_TREE_LENGTH (TYPE_NAME_NUMBERS_PER_TOKEN * TYPE_NAME_MOST_TOKENS) /* enough for every file */
 #define TYPE_NAME_ANSWER_LENGTH 4     /* numbers of `answer` */
+#define TYPE_NAME_LIST_ANSWER_LENGTH 5 /* numbers of `answer` of type_name_read_list */
 #define TYPE_NAME_NO_TOKEN 65535      /* in an answer: the refusal names no token */
+#define TYPE_NAME_NO_PART 65535       /* in an answer of type_name_read_list: refused before the row is cut into parts */
 
 #define TYPE_NAME_RULE_HEAD_LENGTH 4  /* bytes of a rule record without its items */
 #define TYPE_NAME_RULE_KIND 272
@@ -186,7 +189,7 @@ enum type_name_error {
     TYPE_NAME_ERROR_EMPTY = 10,                            /* no token */
     TYPE_NAME_ERROR_UNEXPECTED_CLOSING_DELIMITER = 11,     /* token; detail: 0, or a type_name_delimiter that was open */
     TYPE_NAME_ERROR_UNEXPECTED_ANGLE = 12,                 /* token */
-    TYPE_NAME_ERROR_TOP_LEVEL_COMMA = 13,                  /* token */
+    TYPE_NAME_ERROR_TOP_LEVEL_COMMA = 13,                  /* token; never of type_name_read_list */
     TYPE_NAME_ERROR_UNEXPECTED_END_TOKEN = 14,             /* token */
     TYPE_NAME_ERROR_UNCLOSED_DELIMITER = 15,               /* token: the innermost */
     TYPE_NAME_ERROR_UNCLOSED_ANGLE = 16,                   /* token: the first `<` outside brackets */
@@ -257,6 +260,31 @@ uint32_t type_name_read(const uint8_t *file, size_t file_len,
                         uint32_t *tree, size_t tree_len,
                         uint32_t *answer, size_t answer_len);
 
+/* Reads the `file_len` bytes at `file` as a comma list of type names: cuts the row into parts at its commas outside brackets
+ * and angles, and reads each part as a row of its own. Parts are numbered from 0, and there is at least one: a row without
+ * tokens is one empty part. Angles are counted as for refusal 12: the comma of `A<b,c>` cuts nothing, whether the reader makes
+ * a list of it or not. A part that is refused with 11, 12 or 14 runs to the row's end.
+ *
+ * Returns 0 if all parts are accepted, else the refusal's number: that of the first part refused. `answer` gets as many of
+ * five numbers as it has room for:
+ *     accepted   0, nodes of all trees, steps, 0, parts
+ *     refused    number, token (TYPE_NAME_NO_TOKEN if none), detail, steps, part
+ * The part is TYPE_NAME_NO_PART with refusals 1 to 6, and with them alone. Tokens are numbered within their part, and commas
+ * that cut belong to none; type_name_find_part below finds a part's first token. Steps are those of all parts up to there,
+ * which share the allowance, first part first: 25 names the part in which it ran out.
+ *
+ * `tree` gets, if all parts are accepted, their trees, one behind the other, each as type_name_read would give it for its
+ * part alone, and then zeros to its end. A tree begins exactly where a node has kind TYPE_NAME_NODE_TOKEN and token 0;
+ * type_name_next_part below goes from one to the next. Refusals treat `tree` as those of type_name_read do, and 6 counts all
+ * tokens of the row, commas too.
+ *
+ * An empty part is refusal 10, and 13 never comes.
+ *
+ * Proved and left to the caller as with type_name_read; its stack is that one's, for any number of parts. */
+uint32_t type_name_read_list(const uint8_t *file, size_t file_len,
+                             uint32_t *tree, size_t tree_len,
+                             uint32_t *answer, size_t answer_len);
+
 /* ---- rule tables */
 
 /* Reads the `file_len` bytes at `file` as type_name_read does, and finds the first rule of the table `rules` (rules_len
@@ -314,6 +342,17 @@ static inline uint32_t type_name_read_or_null(const uint8_t *file, size_t file_l
     return type_name_read(file_len == 0 ? &no_byte : file, file_len,
                           tree_len == 0 ? &no_tree : tree, tree_len,
                           answer_len == 0 ? &no_answer : answer, answer_len);
+}
+
+static inline uint32_t type_name_read_list_or_null(const uint8_t *file, size_t file_len,
+                                                   uint32_t *tree, size_t tree_len,
+                                                   uint32_t *answer, size_t answer_len)
+{
+    uint8_t no_byte = 0;
+    uint32_t no_tree = 0, no_answer = 0;
+    return type_name_read_list(file_len == 0 ? &no_byte : file, file_len,
+                               tree_len == 0 ? &no_tree : tree, tree_len,
+                               answer_len == 0 ? &no_answer : answer, answer_len);
 }
 
 static inline uint32_t type_name_match_or_null(const uint8_t *file, size_t file_len,
@@ -414,6 +453,65 @@ static inline void type_name_limit_allowance(uint8_t *file, size_t file_len, uin
         allowance = allowance << 8 | file[TYPE_NAME_ALLOWANCE_AT + i - 1];
     if (allowance > most)
         type_name_put_number(file + TYPE_NAME_ALLOWANCE_AT, most, 4);
+}
+
+/* Goes from a node of an accepted list to the first node of the next part. Nodes are numbered from 0, and part 0 begins with
+ * node 0; `nodes` is the answer's second number.
+ *
+ * Returns that node's number, or `nodes` behind the last part: so a part's nodes are those from its first up to it. */
+static inline uint32_t type_name_next_part(const uint32_t *tree, uint32_t nodes, uint32_t node)
+{
+    while (++node < nodes) {
+        const uint32_t *record = tree + (size_t)TYPE_NAME_NODE_WIDTH * node;
+        if (record[0] == TYPE_NAME_NODE_TOKEN && record[1] == 0)
+            return node;
+    }
+    return nodes;
+}
+
+/* Finds a part in its row: any of a file that type_name_read_list accepted, or the part that it refused, or one before.
+ *
+ * Returns the number that the part's first token has in the row; of an empty part that of the comma behind it, or how many
+ * tokens the row has. TYPE_NAME_NO_TOKEN if the tokens end before it. */
+static inline uint32_t type_name_find_part(const uint8_t *file, size_t file_len, uint32_t part)
+{
+    size_t at = TYPE_NAME_HEAD_LENGTH, record;
+    uint32_t token = 0, brackets = 0, angles = 0;
+    while (part > 0 && at < file_len && file_len - at >= TYPE_NAME_TOKEN_LENGTH) {
+        record = file[at] + ((size_t)file[at + 1] << 8);
+        if (record < TYPE_NAME_TOKEN_LENGTH)
+            break;
+        switch (file[at + 2]) {
+        case TYPE_NAME_KIND_LEFT_PAREN:
+        case TYPE_NAME_KIND_LEFT_BRACKET:
+            brackets++;
+            break;
+        case TYPE_NAME_KIND_RIGHT_PAREN:
+        case TYPE_NAME_KIND_RIGHT_BRACKET:
+            brackets--;
+            break;
+        case TYPE_NAME_KIND_LESS:
+            if (brackets == 0)
+                angles++;
+            break;
+        case TYPE_NAME_KIND_GREATER:
+            if (brackets == 0)
+                angles--;
+            break;
+        case TYPE_NAME_KIND_SHIFT_RIGHT:
+            /* Where no angle is open it closes none. */
+            if (brackets == 0 && angles > 0)
+                angles -= 2;
+            break;
+        case TYPE_NAME_KIND_COMMA:
+            if (brackets == 0 && angles == 0)
+                part--;
+            break;
+        }
+        at += record;
+        token++;
+    }
+    return part == 0 ? token : TYPE_NAME_NO_TOKEN;
 }
 
 /* An item of a rule. */

@@ -188,6 +188,72 @@ static void no_overlap(void)
     CHECK(sequence[0] == 7 && sequence[1] == 7);
 }
 
+/* A row of one byte a token, `A` for every word; returns its length. */
+static size_t build_row(uint8_t *file, size_t room, const char *text)
+{
+    static const char spelled[] = "A<>(),[]";
+    static const enum type_name_token_kind kinds[] = {
+        TYPE_NAME_KIND_IDENTIFIER,   TYPE_NAME_KIND_LESS,  TYPE_NAME_KIND_GREATER,      TYPE_NAME_KIND_LEFT_PAREN,
+        TYPE_NAME_KIND_RIGHT_PAREN,  TYPE_NAME_KIND_COMMA, TYPE_NAME_KIND_LEFT_BRACKET, TYPE_NAME_KIND_RIGHT_BRACKET,
+        TYPE_NAME_KIND_SHIFT_RIGHT,
+    };
+    size_t length = type_name_put_head(file, room, TYPE_NAME_LANGUAGE_CPP, TYPE_NAME_CPP17,
+                                       TYPE_NAME_STRUCTURE_CHECK_OFF, 1000);
+    for (; *text != 0; text++) {
+        /* `R` stands for `>>`. */
+        size_t kind = *text == 'R' ? sizeof spelled - 1 : (size_t)(strchr(spelled, *text) - spelled);
+        length = type_name_put_token(file, room, length, kinds[kind], "A", 1, 0, 1);
+    }
+    return length;
+}
+
+/* The first tokens of the parts, and that of no part behind them. */
+static void finds_parts(const char *text, const uint32_t *first, uint32_t parts)
+{
+    uint8_t file[ROOM];
+    uint32_t tree[6 * ROOM / TYPE_NAME_TOKEN_LENGTH], answer[TYPE_NAME_LIST_ANSWER_LENGTH], part, node, next, count = 0;
+    size_t length = build_row(file, sizeof file, text);
+    CHECK(length != 0);
+    for (part = 0; part < parts; part++)
+        CHECK(type_name_find_part(file, length, part) == first[part]);
+    CHECK(type_name_find_part(file, length, parts) == TYPE_NAME_NO_TOKEN);
+    CHECK(type_name_find_part(file, length, TYPE_NAME_NO_PART) == TYPE_NAME_NO_TOKEN);
+    CHECK(type_name_read_list(file, length, tree, sizeof tree / sizeof tree[0], answer, 5) == 0);
+    CHECK(answer[3] == 0 && answer[4] == parts);
+    /* Each tree ends where the next begins: its top-level nodes fill it. */
+    for (node = 0; node < answer[1]; count++) {
+        next = type_name_next_part(tree, answer[1], node);
+        CHECK(tree[3 * node] == TYPE_NAME_NODE_TOKEN && tree[3 * node + 1] == 0);
+        for (; node < next; node += tree[3 * node + 2])
+            CHECK(node + tree[3 * node + 2] <= next);
+        CHECK(node == next);
+    }
+    CHECK(count == parts);
+}
+
+static void lists(void)
+{
+    static const uint32_t one[] = {0}, two[] = {0, 2}, angles[] = {0, 9, 15}, brackets[] = {0, 7, 14};
+    uint8_t file[ROOM];
+    uint32_t answer[TYPE_NAME_LIST_ANSWER_LENGTH] = {9, 9, 9, 9, 9}, no_tree = 0;
+    size_t length;
+    finds_parts("A", one, 1);
+    finds_parts("A,A", two, 2);
+    finds_parts("A<A<A,AR,A<,A>,A", angles, 3);
+    finds_parts("A(A,<),A[A,A],ARA", brackets, 3);
+    /* The refused part, and those before; an empty one stands where the row ends. */
+    length = build_row(file, sizeof file, "A,A<A>,");
+    CHECK(type_name_read_list(file, length, &no_tree, 0, answer, 5) == TYPE_NAME_ERROR_SHORT_BUFFER);
+    CHECK(answer[1] == TYPE_NAME_NO_TOKEN && answer[4] == TYPE_NAME_NO_PART);
+    CHECK(type_name_find_part(file, length, 1) == 2 && type_name_find_part(file, length, 2) == 7);
+    length = build_row(file, sizeof file, "A,),A");
+    CHECK(type_name_find_part(file, length, 1) == 2);
+    /* What is no row file is looked at no further than it goes. */
+    CHECK(type_name_find_part(file, 0, 0) == 0 && type_name_find_part(file, 0, 1) == TYPE_NAME_NO_TOKEN);
+    memset(file, 0, sizeof file);
+    CHECK(type_name_find_part(file, sizeof file, 1) == TYPE_NAME_NO_TOKEN);
+}
+
 static void no_pointers(void)
 {
     uint32_t answer[TYPE_NAME_ANSWER_LENGTH] = {9, 9, 9, 9};
@@ -195,6 +261,7 @@ static void no_pointers(void)
     CHECK(type_name_overlap_or_null(NULL, 0, 0, 0, NULL, 0, NULL, 0) == 0);
     CHECK(type_name_overlap_or_null(NULL, 0, 0, 0, NULL, 0, answer, 2) == 0);
     CHECK(answer[0] == 0 && answer[1] == 0 && answer[2] == 9 && answer[3] == 9);
+    CHECK(type_name_read_list_or_null(NULL, 0, NULL, 0, NULL, 0) == TYPE_NAME_ERROR_INVALID_HEAD);
     CHECK(type_name_read_or_null(NULL, 0, NULL, 0, NULL, 0) == TYPE_NAME_ERROR_INVALID_HEAD);
     CHECK(type_name_read_or_null(NULL, 0, NULL, 0, answer, 4) == TYPE_NAME_ERROR_INVALID_HEAD);
     CHECK(answer[0] == TYPE_NAME_ERROR_INVALID_HEAD && answer[1] == TYPE_NAME_NO_TOKEN);
@@ -211,6 +278,7 @@ int main(int count, char **arguments)
     tables();
     items();
     no_overlap();
+    lists();
     no_pointers();
     snprintf(version, sizeof version, "%d.%d.%d", TYPE_NAME_VERSION_MAJOR, TYPE_NAME_VERSION_MINOR,
              TYPE_NAME_VERSION_PATCH);

@@ -14,7 +14,7 @@ use crate::numbered::numbered;
 pub struct Refusal {
     /// Why.
     pub error: TypeNameError,
-    /// The number of the token at fault, where the error names one: 11 to 16.
+    /// The number of the token at fault, where the error names one: 11 to 16. In a list it is numbered within its part.
     pub token: Option<u32>,
     /// What more the error says: for `InvalidRecord` the byte offset of the record, else see [`Refusal::expected`] and
     /// [`Refusal::feature`]; 0 for all others.
@@ -57,6 +57,12 @@ impl Refusal {
         }
     }
 
+    /// The sentence, with the refusal's number and detail.
+    pub(crate) fn write_sentence(self, to: &mut fmt::Formatter<'_>) -> fmt::Result {
+        write!(to, "refusal {}: {}", self.error.number(), self.error)?;
+        self.write_detail(to)
+    }
+
     /// What the detail says, as the end of a sentence.
     fn write_detail(self, to: &mut fmt::Formatter<'_>) -> fmt::Result {
         match self.error {
@@ -78,8 +84,7 @@ impl Refusal {
 /// A sentence with the refusal's number, and with its token and detail where it has them.
 impl fmt::Display for Refusal {
     fn fmt(&self, to: &mut fmt::Formatter<'_>) -> fmt::Result {
-        write!(to, "refusal {}: {}", self.error.number(), self.error)?;
-        self.write_detail(to)?;
+        self.write_sentence(to)?;
         match self.token {
             Some(token) => write!(to, " (token {token})"),
             None => Ok(()),
@@ -113,7 +118,7 @@ numbered! {
         UnexpectedClosingDelimiter = 11,
         /// A `<`, `>` or `>>` outside brackets where none can be.
         UnexpectedAngle = 12,
-        /// A comma outside brackets and angles.
+        /// A comma outside brackets and angles. Never of a list, which such commas cut into parts.
         TopLevelComma = 13,
         /// A token of kind `End`.
         UnexpectedEndToken = 14,

@@ -1,8 +1,8 @@
 //! Reads the name of a C, C++ or Fortran type, given as tokens, into a tree, or refuses it with one number that says why.
 //!
 //! A lexer's tokens become a row file with [`Row`]; [`parse_type_name`] reads it into a buffer of the caller's and gives a
-//! [`Tree`] or a [`Refusal`]. A [`Table`] of rules over a tree's top-level nodes says which rule wins for a type name, and
-//! which of its rules overlap.
+//! [`Tree`] or a [`Refusal`]; [`parse_type_list`] reads several type names with commas between them. A [`Table`] of rules over
+//! a tree's top-level nodes says which rule wins for a type name, and which of its rules overlap.
 //!
 #![doc = "```"]
 #![doc = include_str!("../examples/lane.rs")]
@@ -13,13 +13,14 @@
 //!
 //! # What is proved, and what is not
 //!
-//! Proved, for every file, table and buffer: what the C functions `type_name_read`, `type_name_match` and
-//! `type_name_overlap` answer and write. `README.md` says what that comprises, `include/type_name.h` what the caller of those
-//! functions sees to.
+//! Proved, for every file, table and buffer: what the C functions `type_name_read`, `type_name_read_list`, `type_name_match`
+//! and `type_name_overlap` answer and write. `README.md` says what that comprises, `include/type_name.h` what the caller of
+//! those functions sees to.
 //!
 //! Not proved: this crate. It sees to what no contract covers by handing over slices, which are aligned, as long as they
 //! say, never null and, as those that are written are `&mut`, apart from each other. It gives the numbers names and lays out
-//! row files and rule tables; tests hold both to the proved definitions.
+//! row files and rule tables; tests hold both to the proved definitions. It finds a list's parts in their row; tests hold that
+//! to where the proved reader finds a comma that cuts.
 
 #![no_std]
 #![warn(missing_docs)]
@@ -27,7 +28,9 @@
 extern crate alloc;
 
 mod answer;
+mod cuts;
 mod limits;
+mod list;
 mod numbered;
 mod overlaps;
 mod profile;
@@ -43,16 +46,18 @@ use alloc::vec;
 use alloc::vec::Vec;
 
 pub use answer::{Delimiter, Feature, Refusal, TypeNameError};
+pub use cuts::PartPlace;
 pub use limits::{
     ALLOWANCE_AT, ANSWER_LENGTH, GREATEST_WORD_BYTE, HEAD_KIND, HEAD_LENGTH, LEAST_WORD_BYTE,
-    LONGEST_SEQUENCE, LONGEST_WORD, MOST_BYTES, MOST_ITEMS, MOST_NESTING, MOST_RULES, MOST_TOKENS,
-    NO_TOKEN, NODE_WIDTH, NUMBERS_PER_TOKEN, Offset, RULE_HEAD_LENGTH, RULE_KIND, TOKEN_LENGTH,
-    TREE_LENGTH,
+    LIST_ANSWER_LENGTH, LONGEST_SEQUENCE, LONGEST_WORD, MOST_BYTES, MOST_ITEMS, MOST_NESTING,
+    MOST_RULES, MOST_TOKENS, NO_PART, NO_TOKEN, NODE_WIDTH, NUMBERS_PER_TOKEN, Offset,
+    RULE_HEAD_LENGTH, RULE_KIND, TOKEN_LENGTH, TREE_LENGTH,
 };
+pub use list::{ListRefusal, Part, Parts, TypeList};
 pub use numbered::UnknownNumberError;
 pub use overlaps::{Overlap, Overlaps};
 pub use profile::{CStandard, CppStandard, FortranStandard, HostLanguage, HostLanguageProfile};
-pub use raw::{type_name_match, type_name_overlap, type_name_read};
+pub use raw::{type_name_match, type_name_overlap, type_name_read, type_name_read_list};
 pub use row::{AMPLE_ALLOWANCE, Head, RecordError, Row, StructureCheck, limit_allowance};
 pub use rule::{Item, ItemKind, Items, RuleError};
 pub use table::{Rules, Table, Winner};
@@ -88,4 +93,31 @@ pub fn parse_type_name<'a>(file: &'a [u8], buffer: &'a mut [u32]) -> Result<Tree
     type_name_read(file, buffer, &mut answer);
     let [nodes, steps, _] = Refusal::of_answer(answer)?;
     Ok(Tree::new(file, buffer, nodes, steps))
+}
+
+/// Reads a row file as a comma list of type names into the tree buffer.
+///
+/// The row is cut into parts at its commas outside brackets and angles, and each part is read as a row of its own, with what
+/// the parts before it left of the allowance. If all are accepted, the buffer gets their trees, one behind the other, and
+/// zeros behind them. Else it is as after [`parse_type_name`], which says how long it must be, too.
+///
+/// # Errors
+///
+/// If the file is refused, or a part: the first such part decides. An empty part is [`Empty`](TypeNameError::Empty), and so
+/// is a row without tokens, which is one empty part. [`TopLevelComma`](TypeNameError::TopLevelComma) never comes.
+///
+/// # Panics
+///
+/// Only if the library that is linked is not the proved one: its refusals have other numbers, or parts that a row has not.
+pub fn parse_type_list<'a>(
+    file: &'a [u8],
+    buffer: &'a mut [u32],
+) -> Result<TypeList<'a>, ListRefusal> {
+    let mut answer = [0; LIST_ANSWER_LENGTH];
+    type_name_read_list(file, buffer, &mut answer);
+    let [number, token, detail, steps, part] = answer;
+    match Refusal::of_answer([number, token, detail, steps]) {
+        Ok([nodes, steps, _]) => Ok(TypeList::new(file, buffer, [nodes, steps, part])),
+        Err(refusal) => Err(ListRefusal::new(refusal, part, file)),
+    }
 }

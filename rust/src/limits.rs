@@ -40,8 +40,14 @@ pub const TREE_LENGTH: usize = NUMBERS_PER_TOKEN * MOST_TOKENS;
 /// The numbers of an answer.
 pub const ANSWER_LENGTH: usize = 4;
 
+/// The numbers of the answer to a list of type names.
+pub const LIST_ANSWER_LENGTH: usize = 5;
+
 /// Stands in an answer where a refusal names no token.
 pub const NO_TOKEN: u32 = 65_535;
+
+/// Stands in the answer to a list where the file is refused before it is cut into parts.
+pub const NO_PART: u32 = 65_535;
 
 /// How deep groups and lists may nest, else [`NestingLimitExceeded`](crate::TypeNameError::NestingLimitExceeded).
 pub const MOST_NESTING: usize = 64;

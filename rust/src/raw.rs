@@ -19,6 +19,25 @@ pub fn type_name_read(file: &[u8], tree: &mut [u32], answer: &mut [u32]) -> u32 
     }
 }
 
+/// The C function that reads a comma list of type names: returns and writes what [`type_name_read`] does, the trees one behind
+/// the other, and a fifth number of the answer's [`LIST_ANSWER_LENGTH`](crate::LIST_ANSWER_LENGTH): how many parts there are,
+/// or which is refused.
+///
+/// For those who want the numbers themselves; all others call [`parse_type_list`](crate::parse_type_list).
+pub fn type_name_read_list(file: &[u8], tree: &mut [u32], answer: &mut [u32]) -> u32 {
+    // SAFETY: as in `type_name_read`.
+    unsafe {
+        c::type_name_read_list(
+            file.as_ptr(),
+            file.len(),
+            tree.as_mut_ptr(),
+            tree.len(),
+            answer.as_mut_ptr(),
+            answer.len(),
+        )
+    }
+}
+
 /// The C function that also finds the rule that wins: returns and writes what [`type_name_read`] does, with the rule's place
 /// as the answer's last number.
 ///
@@ -69,6 +88,15 @@ pub fn type_name_overlap(
 mod c {
     unsafe extern "C" {
         pub fn type_name_read(
+            file: *const u8,
+            file_len: usize,
+            tree: *mut u32,
+            tree_len: usize,
+            answer: *mut u32,
+            answer_len: usize,
+        ) -> u32;
+
+        pub fn type_name_read_list(
             file: *const u8,
             file_len: usize,
             tree: *mut u32,

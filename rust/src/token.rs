@@ -10,7 +10,7 @@ use crate::token_kind::TokenKind;
 /// A token of a row.
 #[derive(Debug, Clone, Copy, PartialEq, Eq)]
 pub struct Token<'a> {
-    /// Its place in the row, from 0.
+    /// Its place in the row, from 0; of a token that a [`Part`](crate::Part) leads to, its place in the part.
     pub number: u32,
     /// What sort of token it is.
     pub kind: TokenKind,
@@ -50,6 +50,16 @@ impl<'a> Tokens<'a> {
             offset: HEAD_LENGTH,
             number: 0,
         }
+    }
+
+    /// The number of the token that comes next.
+    pub(crate) fn next_number(&self) -> u32 {
+        self.number
+    }
+
+    /// The same tokens, numbered from 0: those of a part.
+    pub(crate) fn renumbered(self) -> Self {
+        Self { number: 0, ..self }
     }
 
     /// Goes forward so that the token of this number comes next.

@@ -37,7 +37,14 @@ impl NodeKind {
     }
 }
 
-type Record = [u32; NODE_WIDTH];
+/// Kind, token, extent.
+pub(crate) type Record = [u32; NODE_WIDTH];
+
+/// The first `nodes` records of a buffer.
+pub(crate) fn records(buffer: &[u32], nodes: u32) -> &[Record] {
+    let (records, _) = buffer.as_chunks();
+    &records[..nodes as usize]
+}
 
 /// The tree of an accepted type name.
 ///
@@ -53,10 +60,9 @@ pub struct Tree<'a> {
 impl<'a> Tree<'a> {
     /// The first `nodes` records of a buffer.
     pub(crate) fn new(file: &'a [u8], buffer: &'a [u32], nodes: u32, steps: u32) -> Self {
-        let (records, _) = buffer.as_chunks();
         Self {
             file,
-            records: &records[..nodes as usize],
+            records: records(buffer, nodes),
             steps,
         }
     }
@@ -76,10 +82,7 @@ impl<'a> Tree<'a> {
     /// The nodes of the top level, each with what is below it.
     #[must_use]
     pub fn top_level(&self) -> Nodes<'a> {
-        Nodes {
-            records: self.records,
-            tokens: Tokens::new(self.file),
-        }
+        Nodes::new(self.records, Tokens::new(self.file))
     }
 
     /// All nodes, parents first, each with its level: how many groups and lists it stands in.
@@ -124,6 +127,11 @@ pub struct Nodes<'a> {
 }
 
 impl<'a> Nodes<'a> {
+    /// Those of a tree, and the tokens of the row that it was read from.
+    pub(crate) fn new(records: &'a [Record], tokens: Tokens<'a>) -> Self {
+        Self { records, tokens }
+    }
+
     /// These and all nodes below them, parents first, each with its level below these.
     pub fn with_levels(self) -> impl Iterator<Item = (u32, Node<'a>)> + use<'a> {
         let mut open: Vec<(u32, Self)> = vec![(0, self)];

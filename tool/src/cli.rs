@@ -11,7 +11,7 @@ const HELP: &str = "\
 type-name COMMAND ..: reads names of C, C++ and Fortran types with the proved reader
 
 Commands:
-    read       the tree of a type name, or why it is refused
+    read       the tree of a type name, or of each in a comma list; or why it is refused
     match      the rule of a table that wins for a type name
     overlaps   the pairs of rules of a table that some sequence of nodes matches together
     table      the file of a table, for the functions of the library

@@ -1,15 +1,25 @@
-//! The tree as a drawing.
+//! Trees as drawings.
 
-use type_name::{Node, NodeKind, Nodes, Tree};
+use type_name::{Node, NodeKind, Nodes, TypeList};
 
 use crate::excerpt::visible;
 use crate::source::Source;
 
 /// A line a node: a token as it is spelled, a group by its brackets, a list by its angles.
-pub fn drawing(source: &Source, tree: &Tree) -> String {
+pub fn drawing(source: &Source, top_level: Nodes) -> String {
     let mut text = String::new();
-    level(source, tree.top_level(), "", &mut text);
+    level(source, top_level, "", &mut text);
     text
+}
+
+/// Each part's tree under its number.
+pub fn drawings(source: &Source, list: &TypeList) -> String {
+    list.parts()
+        .map(|part| {
+            let tree = drawing(source, part.top_level());
+            format!("part {}\n{tree}", part.place.number)
+        })
+        .collect()
 }
 
 /// Nodes that stand beside each other, each with what is below it. They nest 64 deep at most.

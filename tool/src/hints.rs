@@ -4,8 +4,8 @@
 use std::fmt;
 
 use type_name::{
-    Head, HostLanguage, HostLanguageProfile, Item, MOST_ITEMS, Node, NodeKind, Refusal, TokenKind,
-    TypeNameError, parse_type_name, tree_for,
+    Head, HostLanguage, HostLanguageProfile, Item, ListRefusal, MOST_ITEMS, Node, NodeKind,
+    PartPlace, Refusal, TokenKind, TypeNameError, parse_type_list, parse_type_name, tree_for,
 };
 
 use crate::item_text::items_text;
@@ -34,19 +34,55 @@ fn plain(sentence: String) -> Option<Hint> {
     Some(Hint { sentence, instead })
 }
 
+/// What a text is read as.
+#[derive(Clone, Copy)]
+enum Reading {
+    TypeName,
+    List,
+}
+
 pub fn hint(text: &Text, refusal: Refusal) -> Option<Hint> {
     match refusal.error {
-        TypeNameError::AllowancePassed => plain(format!(
-            "--allowance takes a number up to {}; a step takes some 15 ns",
-            u32::MAX
-        )),
-        TypeNameError::TopLevelComma if rewritten(text).is_none() => {
-            plain("a type name is read alone, without those beside it".to_owned())
-        }
-        _ => rewritten(text)
-            .or_else(|| later_standard(text))
-            .or_else(|| other_language(text)),
+        TypeNameError::AllowancePassed => greater_allowance(),
+        TypeNameError::TopLevelComma if rewritten(text).is_none() => alone(text),
+        _ => rewritten(text).or_else(|| other_profile(text, Reading::TypeName)),
     }
+}
+
+/// Of a list what to write for the part that is refused, or a profile that accepts the whole.
+pub fn list_hint(text: &Text, refused: &ListRefusal) -> Option<Hint> {
+    if refused.refusal.error == TypeNameError::AllowancePassed {
+        return greater_allowance();
+    }
+    let part = refused.part.and_then(|part| text_of(text, part));
+    let rewritten = part.and_then(|part| rewritten(&part));
+    rewritten.or_else(|| other_profile(text, Reading::List))
+}
+
+fn greater_allowance() -> Option<Hint> {
+    plain(format!(
+        "--allowance takes a number up to {}; a step takes some 15 ns",
+        u32::MAX
+    ))
+}
+
+/// Of a text with a comma that would cut it.
+fn alone(text: &Text) -> Option<Hint> {
+    let instead = match is_accepted(&text.text, text.head, Reading::List) {
+        true => "a type name is read alone; `type-name read --list` accepts this as a list of them",
+        false => "a type name is read alone, without those beside it",
+    };
+    plain(instead.to_owned())
+}
+
+/// A part of a list by itself.
+fn text_of(list: &Text, part: PartPlace) -> Option<Text> {
+    let place = list.place_of(part)?;
+    Text::new(&list.text[place], list.head).ok()
+}
+
+fn other_profile(text: &Text, reading: Reading) -> Option<Hint> {
+    later_standard(text, reading).or_else(|| other_language(text, reading))
 }
 
 /// A rule that matches a row which no rule of a table matches.
@@ -79,7 +115,7 @@ fn of_node<'a>(node: &Node<'a>) -> Item<'a> {
 fn rewritten(text: &Text) -> Option<Hint> {
     RULES.iter().find_map(|rule| {
         let instead = rewrites::apply(rule, text)?;
-        is_accepted(&instead, text.head).then(|| Hint {
+        is_accepted(&instead, text.head, Reading::TypeName).then(|| Hint {
             sentence: rule.sentence.to_owned(),
             instead: rule.is_same_type.then_some(instead),
         })
@@ -87,23 +123,23 @@ fn rewritten(text: &Text) -> Option<Hint> {
 }
 
 /// The first later standard of the language that accepts the text.
-fn later_standard(text: &Text) -> Option<Hint> {
+fn later_standard(text: &Text, reading: Reading) -> Option<Hint> {
     let now = text.head.profile;
     let mut later = HostLanguageProfile::all().filter(|profile| {
         profile.language() == now.language() && profile.standard() > now.standard()
     });
-    let accepting = later.find(|&profile| is_accepted(&text.text, with(text.head, profile)))?;
+    let accepting = later.find(|&profile| accepts(profile, text, reading))?;
     let option = option_name(accepting);
     plain(format!("{accepting} accepts it: --standard {option}"))
 }
 
 /// Another language whose default standard accepts the text.
-fn other_language(text: &Text) -> Option<Hint> {
+fn other_language(text: &Text, reading: Reading) -> Option<Hint> {
     let now = text.head.profile.language();
     let mut others = HostLanguage::ALL.into_iter().filter(|&other| other != now);
     let accepting = others.find(|&language| {
         let profile = HostLanguageProfile::default_of(language);
-        is_accepted(&text.text, with(text.head, profile))
+        accepts(profile, text, reading)
     })?;
     let option = language_option(accepting);
     plain(format!(
@@ -111,11 +147,21 @@ fn other_language(text: &Text) -> Option<Hint> {
     ))
 }
 
-fn with(head: Head, profile: HostLanguageProfile) -> Head {
-    Head { profile, ..head }
+fn accepts(profile: HostLanguageProfile, text: &Text, reading: Reading) -> bool {
+    let head = Head {
+        profile,
+        ..text.head
+    };
+    is_accepted(&text.text, head, reading)
 }
 
-fn is_accepted(text: &str, head: Head) -> bool {
-    let row = Text::new(text, head).and_then(|text| text.row());
-    row.is_ok_and(|row| parse_type_name(row.bytes(), &mut tree_for(row.bytes())).is_ok())
+fn is_accepted(text: &str, head: Head, reading: Reading) -> bool {
+    let Ok(row) = Text::new(text, head).and_then(|text| text.row()) else {
+        return false;
+    };
+    let mut buffer = tree_for(row.bytes());
+    match reading {
+        Reading::TypeName => parse_type_name(row.bytes(), &mut buffer).is_ok(),
+        Reading::List => parse_type_list(row.bytes(), &mut buffer).is_ok(),
+    }
 }

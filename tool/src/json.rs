@@ -1,22 +1,44 @@
 //! Answers for programs: one JSON object on one line. docs/FORMAT.md, "JSON", describes it.
 
-use type_name::{Node, NodeKind, Overlap, Refusal, Tree};
+use type_name::{ListRefusal, Node, NodeKind, Nodes, Overlap, PartPlace, Refusal, Tree, TypeList};
 
 use crate::hints::Hint;
 use crate::item_text::item_text;
 use crate::rules::Rules;
 use crate::source::Source;
 
+pub fn accepted(source: &Source, tree: &Tree) -> String {
+    let (steps, nodes) = (tree.steps(), nodes(source, tree.top_level()));
+    format!("{{\"accepted\":true,\"steps\":{steps},\"nodes\":[{nodes}]}}\n")
+}
+
+pub fn accepted_list(source: &Source, list: &TypeList) -> String {
+    let parts: Vec<String> = list
+        .parts()
+        .map(|part| {
+            let (place, nodes) = (of_place(Some(part.place)), nodes(source, part.top_level()));
+            format!("{{{place},\"nodes\":[{nodes}]}}")
+        })
+        .collect();
+    let (steps, parts) = (list.steps(), parts.join(","));
+    format!("{{\"accepted\":true,\"steps\":{steps},\"parts\":[{parts}]}}\n")
+}
+
+/// A part's number, and that of its first token in the row.
+fn of_place(part: Option<PartPlace>) -> String {
+    let number = or_null(part.map(|part| part.number));
+    let first = or_null(part.map(|part| part.first_token));
+    format!("\"part\":{number},\"first_token\":{first}")
+}
+
 /// The nodes stand in one list, parents first, as the node records do: nested objects would be deeper than many readers
 /// of JSON go.
-pub fn accepted(source: &Source, tree: &Tree) -> String {
-    let nodes: Vec<String> = tree
+fn nodes(source: &Source, top_level: Nodes) -> String {
+    let nodes: Vec<String> = top_level
         .with_levels()
         .map(|(level, node)| of_node(source, level, &node))
         .collect();
-    let steps = tree.steps();
-    let nodes = nodes.join(",");
-    format!("{{\"accepted\":true,\"steps\":{steps},\"nodes\":[{nodes}]}}\n")
+    nodes.join(",")
 }
 
 fn of_node(source: &Source, level: u32, node: &Node) -> String {
@@ -39,17 +61,33 @@ fn of_node(source: &Source, level: u32, node: &Node) -> String {
 }
 
 pub fn refused(refusal: Refusal, hint: Option<&Hint>) -> String {
+    let (why, hint) = (of_refusal(refusal), of_hint(hint));
+    format!("{{\"accepted\":false,{why},{hint}}}\n")
+}
+
+pub fn refused_list(refused: &ListRefusal, hint: Option<&Hint>) -> String {
+    let (why, hint) = (of_refusal(refused.refusal), of_hint(hint));
+    let place = of_place(refused.part);
+    format!("{{\"accepted\":false,{why},{place},{hint}}}\n")
+}
+
+fn of_refusal(refusal: Refusal) -> String {
     let number = refusal.error.number();
     let name = format!("{:?}", refusal.error);
-    let token = refusal
-        .token
-        .map_or("null".to_owned(), |token| token.to_string());
+    let token = or_null(refusal.token);
     let sentence = string(&refusal.error.to_string());
-    let hint = hint.map_or("null".to_owned(), |hint| string(&hint.to_string()));
     let why = format!("\"refusal\":{number},\"name\":\"{name}\",\"sentence\":{sentence}");
     let Refusal { detail, steps, .. } = refusal;
-    let rest = format!("\"token\":{token},\"detail\":{detail},\"steps\":{steps},\"hint\":{hint}");
-    format!("{{\"accepted\":false,{why},{rest}}}\n")
+    format!("{why},\"token\":{token},\"detail\":{detail},\"steps\":{steps}")
+}
+
+fn of_hint(hint: Option<&Hint>) -> String {
+    let hint = or_null(hint.map(|hint| string(&hint.to_string())));
+    format!("\"hint\":{hint}")
+}
+
+fn or_null(value: Option<impl ToString>) -> String {
+    value.map_or("null".to_owned(), |value| value.to_string())
 }
 
 /// The rule that wins.

@@ -2,10 +2,10 @@
 
 use std::ffi::OsString;
 
-use type_name::{Refusal, Tree, parse_type_name, tree_for};
+use type_name::{ListRefusal, Refusal, Tree, TypeList, parse_type_list, parse_type_name, tree_for};
 
 use crate::cli::{Answer, Done, Wrong};
-use crate::hints::{Hint, hint};
+use crate::hints::{hint, list_hint};
 use crate::options::{Known, Options};
 use crate::source::Source;
 use crate::{draw, input, json, listing, refused};
@@ -13,10 +13,12 @@ use crate::{draw, input, json, listing, refused};
 const USAGE: &str = "\
 type-name read [OPTION ..] TEXT       the tree of a type name, or why it is refused
 type-name read [OPTION ..] --file ROW the same of a row file (docs/FORMAT.md)
+type-name read --list ..              the same of each type name of a comma list
 ";
 
 const FORMS: &str =
-    "    --listing                 print the lines of the program `listing`: nodes and steps, then a line a node
+    "    --list                    read a comma list of type names: print each one's tree under its number, or which is refused
+    --listing                 print the lines of the program `listing`: nodes and steps, then a line a node
     --json                    print one line of JSON
 
 The tree is drawn unless said otherwise. A text goes through a lexer that is not proved; what reads the tokens is.
@@ -24,7 +26,7 @@ Exit status: 0 accepted, 1 refused, 2 wrong use or input.
 ";
 
 const KNOWN: Known = Known {
-    flags: &["--no-structure", "--listing", "--json", "--help"],
+    flags: &["--no-structure", "--list", "--listing", "--json", "--help"],
     valued: &input::VALUED,
 };
 
@@ -49,6 +51,12 @@ pub fn command(arguments: &[OsString]) -> Done {
     };
     let source = input::source(&options, options.words())?;
     let mut buffer = tree_for(&source.file);
+    if options.has("--list") {
+        return Ok(match parse_type_list(&source.file, &mut buffer) {
+            Ok(list) => Answer::Accepted(form.accepted_list(&source, &list)),
+            Err(refused) => Answer::Refused(form.refused_list(&source, &refused)),
+        });
+    }
     Ok(match parse_type_name(&source.file, &mut buffer) {
         Ok(tree) => Answer::Accepted(form.accepted(&source, &tree)),
         Err(refusal) => Answer::Refused(form.refused(&source, refusal)),
@@ -58,18 +66,37 @@ pub fn command(arguments: &[OsString]) -> Done {
 impl Form {
     fn accepted(self, source: &Source, tree: &Tree) -> String {
         match self {
-            Self::Words => draw::drawing(source, tree),
+            Self::Words => draw::drawing(source, tree.top_level()),
             Self::Listing => listing::accepted(tree),
             Self::Json => json::accepted(source, tree),
         }
     }
 
+    fn accepted_list(self, source: &Source, list: &TypeList) -> String {
+        match self {
+            Self::Words => draw::drawings(source, list),
+            Self::Listing => listing::accepted_list(list),
+            Self::Json => json::accepted_list(source, list),
+        }
+    }
+
     fn refused(self, source: &Source, refusal: Refusal) -> String {
-        let hint = || -> Option<Hint> { hint(source.text.as_ref()?, refusal) };
+        let text = source.text.as_ref();
+        let hint = || text.and_then(|text| hint(text, refusal));
         match self {
             Self::Words => refused::sentence(source, refusal, hint().as_ref()),
             Self::Listing => listing::refused(refusal),
             Self::Json => json::refused(refusal, hint().as_ref()),
+        }
+    }
+
+    fn refused_list(self, source: &Source, refused: &ListRefusal) -> String {
+        let text = source.text.as_ref();
+        let hint = || text.and_then(|text| list_hint(text, refused));
+        match self {
+            Self::Words => refused::list_sentence(source, refused, hint().as_ref()),
+            Self::Listing => listing::refused_list(refused),
+            Self::Json => json::refused_list(refused, hint().as_ref()),
         }
     }
 }

@@ -1,6 +1,8 @@
 //! A refusal in words.
 
-use type_name::{Refusal, Tokens, TypeNameError};
+use std::ops::Range;
+
+use type_name::{ListRefusal, PartPlace, Refusal, Tokens, TypeNameError};
 
 use crate::excerpt::excerpt;
 use crate::hints::Hint;
@@ -8,37 +10,70 @@ use crate::source::{Source, Text};
 
 /// The sentence, the text with the token marked, if one is named, and what to do, if something is known.
 pub fn sentence(source: &Source, refusal: Refusal, hint: Option<&Hint>) -> String {
-    let mut said = refusal.to_string();
-    said += &match &source.text {
-        Some(text) => token_of_text(text, refusal),
-        None => token_of_file(source, refusal) + "\n",
+    let place = match &source.text {
+        Some(text) => {
+            let token = refusal.token.map(|token| &text.tokens[token as usize]);
+            in_text(text, refusal, token.map(|token| token.span.clone()))
+        }
+        None => in_file(source, refusal, refusal.token),
     };
-    if let Some(hint) = hint {
-        said += &format!("{hint}\n");
-    }
-    said
+    with_hint(format!("{refusal}{place}"), hint)
 }
 
-/// The text, with the token that is named; the profile, where it decides.
-fn token_of_text(text: &Text, refusal: Refusal) -> String {
+/// The same of a list, with the part marked if no token is named.
+pub fn list_sentence(source: &Source, refused: &ListRefusal, hint: Option<&Hint>) -> String {
+    let token = refused.token_in_row();
+    let place = match &source.text {
+        Some(text) => {
+            let place = match token {
+                Some(token) => Some(text.tokens[token as usize].span.clone()),
+                None => refused.part.and_then(|part| of_part(text, part)),
+            };
+            in_text(text, refused.refusal, place)
+        }
+        None => in_file(source, refused.refusal, token),
+    };
+    with_hint(format!("{refused}{place}"), hint)
+}
+
+/// Where a part stands; of an empty one the comma behind it, else where the comma before it ends.
+fn of_part(text: &Text, part: PartPlace) -> Option<Range<usize>> {
+    let token = |number: usize| text.tokens.get(number).map(|token| token.span.clone());
+    let first = part.first_token as usize;
+    let behind = || {
+        first
+            .checked_sub(1)
+            .and_then(token)
+            .map(|before| before.end..before.end)
+    };
+    text.place_of(part).or_else(|| token(first)).or_else(behind)
+}
+
+fn with_hint(said: String, hint: Option<&Hint>) -> String {
+    match hint {
+        Some(hint) => format!("{said}{hint}\n"),
+        None => said,
+    }
+}
+
+/// The text, with a place in it; the profile, where it decides.
+fn in_text(text: &Text, refusal: Refusal, place: Option<Range<usize>>) -> String {
     let profile = match refusal.error {
         TypeNameError::NotAvailableInProfile => format!(" ({})", text.head.profile),
         _ => String::new(),
     };
-    let token = refusal.token.map(|token| &text.tokens[token as usize]);
-    let place = token.map(|token| token.span.clone());
     format!("{profile}\n{}", excerpt(&text.text, place))
 }
 
-/// The token that is named, as a row file has it.
-fn token_of_file(source: &Source, refusal: Refusal) -> String {
-    let named = refusal.token.map(|number| number as usize);
-    let token = named.and_then(|number| Tokens::new(&source.file).nth(number));
-    token.map_or_else(String::new, |token| {
-        let spelling = source.spelling(token);
-        format!(
-            "\n    token {}: `{spelling}`, from {} to {}",
-            token.number, token.start, token.end
-        )
-    })
+/// The token that is named, as a row file has it; which one of the row it is.
+fn in_file(source: &Source, refusal: Refusal, of_row: Option<u32>) -> String {
+    let token = of_row.and_then(|number| Tokens::new(&source.file).nth(number as usize));
+    match (refusal.token, token) {
+        (Some(number), Some(token)) => {
+            let spelling = source.spelling(token);
+            let (start, end) = (token.start, token.end);
+            format!("\n    token {number}: `{spelling}`, from {start} to {end}\n")
+        }
+        _ => "\n".to_owned(),
+    }
 }

@@ -3,9 +3,10 @@
 use std::ffi::OsStr;
 use std::fs::File;
 use std::io::{self, Read};
+use std::ops::Range;
 use std::path::Path;
 
-use type_name::{Head, MOST_BYTES, Row, Token, TokenKind, limit_allowance};
+use type_name::{Head, MOST_BYTES, PartPlace, Row, Token, TokenKind, limit_allowance};
 
 use crate::cli::Wrong;
 use crate::excerpt::excerpt;
@@ -44,6 +45,13 @@ impl Text {
         lexer::push_all(&mut row, &self.tokens)?;
         Ok(row)
     }
+
+    /// Where a part of a list stands, `None` if it has no token.
+    pub fn place_of(&self, part: PartPlace) -> Option<Range<usize>> {
+        let first = part.first_token as usize;
+        let tokens = self.tokens.get(first..first + part.token_count as usize)?;
+        Some(tokens.first()?.span.start..tokens.last()?.span.end)
+    }
 }
 
 impl Source {
@@ -74,7 +82,7 @@ impl Source {
         let lexed = self
             .text
             .as_ref()
-            .map(|text| &text.text[text.tokens[token.number as usize].span.clone()]);
+            .map(|text| &text.text[token.start as usize..token.end as usize]);
         match (lexed, token.kind) {
             (Some(text), _) => text.to_owned(),
             (None, TokenKind::Identifier) => token.word.to_owned(),

@@ -56,9 +56,14 @@ fn a_refusal_is_a_sentence_with_its_place() {
 refusal 13: a comma stands outside brackets and angles (token 1)
     int, long
        ^
-hint: a type name is read alone, without those beside it
+hint: a type name is read alone; `type-name read --list` accepts this as a list of them
 ";
     assert_eq!(comma, expected);
+    let no_list = refused(&["int, 8"]);
+    assert!(
+        no_list.ends_with("hint: a type name is read alone, without those beside it\n"),
+        "{no_list}"
+    );
     let two_lines = refused(&["A<b,\n\tlong>>"]);
     let expected = "\
 refusal 12: an angle stands outside brackets where none can stand (token 5)

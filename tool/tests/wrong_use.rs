@@ -27,7 +27,7 @@ fn texts_with_a_slash_are_texts() {
 
 /// Wrong calls, and what each is told.
 #[rustfmt::skip]
-const WRONG: [(&[&str], &str); 27] = [
+const WRONG: [(&[&str], &str); 31] = [
     (&[], "a command is missing"),
     (&["reed", "int"], "no command `reed`"),
     (&["read"], "a TEXT or --file ROW is missing"),
@@ -40,6 +40,9 @@ const WRONG: [(&[&str], &str); 27] = [
     (&["read", "int", "--allowance", "-1"], "--allowance needs a whole number"),
     (&["read", "--json", "--json", "int"], "--json is given twice"),
     (&["read", "--json", "--listing", "int"], "exclude each other"),
+    (&["read", "--list"], "a TEXT or --file ROW is missing"),
+    (&["read", "--list", "int", "long"], "`long` is one word too many"),
+    (&["read", "--list", "lane.row"], "--file reads a row file"),
     (&["read", "--file", "lane.row", "int"], "one of TEXT"),
     (&["read", "--file", "lane.row", "--language", "c"], "the row file says what --language would"),
     (&["match"], "a TABLE is missing"),
@@ -47,6 +50,7 @@ const WRONG: [(&[&str], &str); 27] = [
     (&["match", "lane.rules", "int", "long"], "`long` is one word too many"),
     (&["match", "no-such.rules", "int"], "no-such.rules: "),
     (&["match", "lane.rules", "--listing", "int"], "no option --listing"),
+    (&["match", "lane.rules", "--list", "int, long"], "no option --list;"),
     (&["match", "lane.rules", "lane.row"], "--file reads a row file"),
     (&["match", "-", "-"], "standard input is read once"),
     (&["match", "-", "--file", "-"], "standard input is read once"),

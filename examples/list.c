@@ -1,0 +1,74 @@
+/* Builds the row of `int, Lane<Key>`, reads it as a list of type names and prints each part's tree: an example of several
+ * types in one directive from C. */
+#include <stdio.h>
+#include <string.h>
+
+#include "type_name.h"
+
+struct source_token {
+    enum type_name_token_kind kind;
+    const char *text;
+};
+
+static const struct source_token tokens[] = {
+    {TYPE_NAME_KIND_IDENTIFIER, "int"},
+    {TYPE_NAME_KIND_COMMA, ","},
+    {TYPE_NAME_KIND_IDENTIFIER, "Lane"},
+    {TYPE_NAME_KIND_LESS, "<"},
+    {TYPE_NAME_KIND_IDENTIFIER, "Key"},
+    {TYPE_NAME_KIND_GREATER, ">"},
+};
+
+enum { TOKENS = sizeof tokens / sizeof tokens[0] };
+
+/* Lays out the row file; returns its length, or 0 if a token cannot be written. */
+static size_t build(uint8_t *file, size_t room)
+{
+    size_t length = type_name_put_head(file, room, TYPE_NAME_LANGUAGE_CPP, TYPE_NAME_STANDARD_DEFAULT,
+                                       TYPE_NAME_STRUCTURE_CHECK_ON, TYPE_NAME_AMPLE_ALLOWANCE);
+    uint32_t at = 0;
+    for (size_t i = 0; i < TOKENS; i++) {
+        uint32_t size = (uint32_t)strlen(tokens[i].text);
+        length = type_name_put_token(file, room, length, tokens[i].kind, tokens[i].text, size, at, at + size);
+        at += size;
+    }
+    return length;
+}
+
+/* Prints `count` nodes that stand beside each other or below those before them; `part` are the tokens of their part. */
+static void print(const uint32_t *node, uint32_t count, const struct source_token *part, int indent)
+{
+    static const char *const names[] = {"token", "( )", "[ ]", "< >", "argument"};
+    const uint32_t *end = node + (size_t)TYPE_NAME_NODE_WIDTH * count;
+    while (node < end) {
+        uint32_t kind = node[0], token = node[1], extent = node[2];
+        printf("%*s%s\n", indent, "", kind == TYPE_NAME_NODE_TOKEN ? part[token].text : names[kind]);
+        print(node + TYPE_NAME_NODE_WIDTH, extent - 1, part, indent + 2);
+        node += (size_t)TYPE_NAME_NODE_WIDTH * extent;
+    }
+}
+
+int main(void)
+{
+    uint8_t file[256];
+    uint32_t tree[TYPE_NAME_NUMBERS_PER_TOKEN * TOKENS], answer[TYPE_NAME_LIST_ANSWER_LENGTH];
+    uint32_t nodes, first, next, part;
+    size_t length = build(file, sizeof file);
+    if (length == 0) {
+        puts("a token cannot be written");
+        return 2;
+    }
+    if (type_name_read_list(file, length, tree, TYPE_NAME_NUMBERS_PER_TOKEN * TOKENS, answer,
+                            TYPE_NAME_LIST_ANSWER_LENGTH) != 0) {
+        printf("refusal %u, part %u, token %u, detail %u\n", answer[0], answer[4], answer[1], answer[2]);
+        return 1;
+    }
+    nodes = answer[1];
+    for (first = 0, part = 0; first < nodes; first = next, part++) {
+        next = type_name_next_part(tree, nodes, first);
+        printf("part %u\n", part);
+        print(tree + (size_t)TYPE_NAME_NODE_WIDTH * first, next - first,
+              tokens + type_name_find_part(file, length, part), 2);
+    }
+    return 0;
+}
