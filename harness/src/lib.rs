@@ -8,8 +8,9 @@
 //! `listing` prints answers, `generate` makes cases, `worked_rows` holds the
 //! rows that document 01 works out, `chosen_rows` such as notice a change of a
 //! rule, `replay` writes the list of answers that a
-//! program replays, `token_list` is the original for measuring, `rules` is a
-//! model of rule tables (document 02, C-11) on top of `oracle`.
+//! program replays, `token_list` is the original for measuring, `rules` and
+//! `lists` are models of rule tables and of several types in one row (document
+//! 02, C-11 and C-12) on top of `oracle`.
 
 pub mod answer;
 pub mod chosen_rows;
@@ -19,6 +20,7 @@ pub mod generate;
 pub mod kind;
 pub mod lexed;
 pub mod listing;
+pub mod lists;
 pub mod names;
 pub mod oracle;
 pub mod profile;

@@ -63,6 +63,14 @@ fn class(name: String, make: impl Fn() -> Vec<Row> + 'static) -> Class {
     Class { name, make }
 }
 
+/// The rows of the corpus that are accepted with the structure check.
+pub fn accepted(corpus: &str) -> Vec<Row> {
+    let (_, label, flag) = CORPUS[0];
+    let mut rows = real(corpus, label, flag);
+    rows.retain(|row| oracle::answer_with_tree(&row.write()).0.refusal().is_none());
+    rows
+}
+
 /// Names that the lexer turns down have no row.
 fn real(file: &str, label: Option<&str>, flag: u8) -> Vec<Row> {
     let content = fs::read_to_string(file).expect("the list of type names");
@@ -115,7 +123,7 @@ fn made() -> impl Iterator<Item = (String, Vec<Token>)> {
         .chain(others)
 }
 
-fn cpp(tokens: Vec<Token>) -> Row {
+pub fn cpp(tokens: Vec<Token>) -> Row {
     let head = Head {
         language: CPP,
         standard: MEANT_STANDARD,

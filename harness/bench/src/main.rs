@@ -9,9 +9,10 @@ use std::time::{Duration, Instant};
 
 use harness::format::{NUMBERS_PER_TOKEN, Row};
 use harness::token_list::{TokenList, TypeName, TypeNameError};
-use type_name::{ANSWER_LENGTH, type_name_read};
+use type_name::{ANSWER_LENGTH, type_name_read, type_name_read_list};
 
 mod classes;
+mod lists;
 mod rules;
 mod stack;
 
@@ -25,10 +26,14 @@ bench CORPUS [--class TEXT]
     Proved reader: the file is made before; decoding, checking and clearing are counted. It allocates nothing: the tree
     buffer is lent, of just the size that the row needs, with what the row before left in it.
 bench CORPUS --stack
-    For each class the most bytes of stack that the proved reader takes for a row of it.
+    For each class the most bytes of stack that the proved reader takes for a row of it, and type_name_read_list for the
+    row twice, as a list.
 bench CORPUS --rules
     Time and instructions a row of type_name_match, beside type_name_read, on the accepted rows of the corpus with tables
     of 32 rules; the time of all calls of type_name_overlap over the greatest tables; the most bytes of stack of both.
+bench CORPUS --lists
+    Time and instructions of type_name_read_list on rows of 1 to 8 accepted types of the corpus and on rows of one type over
+    and over, a row and a part, beside those of type_name_read on the parts alone.
 ";
 
 /// A round goes over a class as often as the original gets through it in this time, and once more.
@@ -49,6 +54,8 @@ fn main() -> ExitCode {
         [corpus, "--stack"] => stacks(corpus),
         [corpus, "--rules"] => rules::table(corpus),
         [corpus, "--rules-once", name] => rules::once(corpus, name),
+        [corpus, "--lists"] => lists::table(corpus),
+        [corpus, "--lists-once", read, name] => lists::once(corpus, read, name),
         [corpus, "--once", reader, name] => once(corpus, reader, name),
         _ => Err(HELP.to_owned()),
     };
@@ -99,8 +106,11 @@ fn columns([original, freed, proved]: [f64; 3]) -> String {
 
 fn stacks(corpus: &str) -> Result<(), String> {
     for class in classes::classes(corpus) {
-        let most = stack::most(&class.rows(), type_name_read);
-        println!("{}: {most}", class.name);
+        let rows = class.rows();
+        let one = stack::most(&rows, type_name_read);
+        let list = stack::most(&lists::doubled(&rows), type_name_read_list);
+        println!("{}: {one}", class.name);
+        println!("{}, twice in a list: {list}", class.name);
     }
     Ok(())
 }
@@ -202,6 +212,7 @@ fn counted(arguments: &[&str]) -> Result<u64, String> {
         .arg("--toggle-collect=*original_reads*")
         .arg("--toggle-collect=*proved_reads*")
         .arg("--toggle-collect=*proved_matches*")
+        .arg("--toggle-collect=*proved_lists*")
         .arg(program)
         .args(arguments)
         .output()

@@ -3,17 +3,13 @@
 use std::hint::black_box;
 use std::time::{Duration, Instant};
 
-use harness::format::{ANSWER_LENGTH, Row};
-use harness::oracle;
+use harness::format::ANSWER_LENGTH;
 use harness::rules::format::{self, Item, LONGEST_SEQUENCE, MOST_ITEMS, MOST_RULES, Rule, of_text};
 
 use type_name::type_name_read;
 
 use crate::{DIRT, Inputs, ROUNDS, classes, counted, proved_reads, stack};
 use type_name::{type_name_match, type_name_overlap};
-
-/// The real type names with the structure check.
-const CLASS: &str = "corpus, flag 1";
 
 /// 31 rules such as a planner writes.
 const RULES: &str = "\
@@ -55,15 +51,6 @@ fn as_it_falls() -> Vec<u8> {
     format::file(&rules)
 }
 
-/// The corpus's rows that are accepted.
-fn rows(corpus: &str) -> Vec<Row> {
-    let classes = classes::classes(corpus);
-    let class = classes.iter().find(|class| class.name == CLASS);
-    let mut rows = class.expect("the corpus").rows();
-    rows.retain(|row| oracle::answer_with_tree(&row.write()).0.refusal().is_none());
-    rows
-}
-
 #[inline(never)]
 fn proved_matches(inputs: &Inputs, rules: &[u8], tree: &mut [u32]) -> u32 {
     let mut sum = 0u32;
@@ -87,7 +74,7 @@ fn pass(inputs: &Inputs, rules: Option<&[u8]>, tree: &mut [u32]) {
 pub fn once(corpus: &str, name: &str) -> Result<(), String> {
     let found = measured().into_iter().find(|(known, _)| *known == name);
     let (_, rules) = found.ok_or("no such call")?;
-    let inputs = Inputs::of(&rows(corpus));
+    let inputs = Inputs::of(&classes::accepted(corpus));
     let mut tree = vec![DIRT; inputs.longest()];
     pass(&inputs, rules.as_deref(), &mut tree);
     Ok(())
@@ -103,7 +90,7 @@ pub fn table(corpus: &str) -> Result<(), String> {
 }
 
 fn matches(corpus: &str) -> Result<(), String> {
-    let inputs = Inputs::of(&rows(corpus));
+    let inputs = Inputs::of(&classes::accepted(corpus));
     let mut tree = vec![DIRT; inputs.longest()];
     let count = inputs.files.len() as f64;
     println!("| Accepted rows of the corpus, {count} | ns a row | Instructions a row |");
@@ -152,7 +139,7 @@ fn stacks(corpus: &str) {
     println!("type_name_overlap: {overlap} bytes of stack");
 }
 
-fn fastest(mut run: impl FnMut()) -> Duration {
+pub fn fastest(mut run: impl FnMut()) -> Duration {
     let round = |_| {
         let begin = Instant::now();
         run();

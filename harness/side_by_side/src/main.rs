@@ -12,6 +12,8 @@ use harness::oracle;
 use type_name::{ANSWER_LENGTH, type_name_read};
 
 mod corpus;
+mod lists;
+mod notes;
 mod rules;
 
 const HELP: &str = "\
@@ -27,15 +29,26 @@ side_by_side --rules [--seed S] [--count N]
     N calls or some more (default 100000, seed 1) for the rule that wins and for the pairs of rules that overlap, on tables
     that are chosen, generated and damaged: the harness's model of rule tables and the proved library. Prints how often
     each outcome was seen.
+side_by_side --lists [--seed S] [--count N]
+    N calls or some more (default 100000, seed 1) for several types in one row: all short rows over an alphabet, then
+    generated and damaged ones with allowances about the steps by each part's end: the harness's model of such rows and the
+    proved library, which is held to its own reading of each part alone, too. Prints how often each outcome was seen.
 ";
 
 /// What the buffer holds before a call.
 const DIRT: u32 = 0xdead_beef;
 
+/// Compares the library with a model of the harness, from a seed on, in so many calls.
+type Compare = fn(seed: u64, count: u64) -> ExitCode;
+
+const MODELS: [(&str, Compare); 2] = [("--rules", rules::compare), ("--lists", lists::compare)];
+
 fn main() -> ExitCode {
     let options = Options(std::env::args().skip(1).collect());
-    if options.has("--rules") {
-        return rules(&options).unwrap_or_else(|message| wrong_use(&message));
+    for (name, compare) in MODELS {
+        if options.has(name) {
+            return modelled(&options, compare).unwrap_or_else(|message| wrong_use(&message));
+        }
     }
     let mut tally = Tally::default();
     let done = if let Some(file) = options.value("--corpus") {
@@ -83,9 +96,9 @@ fn seed_and_count(options: &Options) -> Result<(u64, usize), String> {
     Ok((seed, options.number("--count", Some(100_000))?))
 }
 
-fn rules(options: &Options) -> Result<ExitCode, String> {
+fn modelled(options: &Options, compare: Compare) -> Result<ExitCode, String> {
     let (seed, count) = seed_and_count(options)?;
-    Ok(rules::compare(seed, count as u64))
+    Ok(compare(seed, count as u64))
 }
 
 fn generated(options: &Options, tally: &mut Tally) -> Result<(), String> {

@@ -18,7 +18,7 @@ const SPAN_START: usize = 4;
 const SPAN_END: usize = 8;
 
 /// The most tokens of the row that is broken.
-const LONGEST: usize = 64;
+pub const LONGEST: usize = 64;
 
 type Damage = fn(&mut Random, &mut Vec<u8>);
 
@@ -53,13 +53,18 @@ pub fn malformed(random: &mut Random) -> Case {
         mut file,
         mut tree_len,
     } = dressed(draft, random);
-    let damage = *random.pick(&DAMAGES);
     damage(random, &mut file);
-    limit_allowance(&mut file);
     if random.one_in(4) {
         tree_len = random.below(64);
     }
     Case { file, tree_len }
+}
+
+/// Breaks a good file of 1 to `LONGEST` tokens.
+pub fn damage(random: &mut Random, file: &mut Vec<u8>) {
+    let damage = *random.pick(&DAMAGES);
+    damage(random, file);
+    limit_allowance(file);
 }
 
 /// Keeps a file that is a good one after all from running for long.

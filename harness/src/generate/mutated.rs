@@ -15,7 +15,7 @@ pub fn mutated(random: &mut Random) -> Draft {
 }
 
 /// Drops, doubles, swaps or replaces one token.
-fn mutate(random: &mut Random, tokens: &mut Vec<Token>) {
+pub fn mutate(random: &mut Random, tokens: &mut Vec<Token>) {
     if tokens.is_empty() {
         return;
     }

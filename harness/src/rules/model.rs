@@ -155,7 +155,7 @@ pub fn overlap(
 }
 
 /// Writes as many numbers as there is room for and returns the first.
-fn hand_out(numbers: Numbers, answer: &mut [u32]) -> u32 {
+pub fn hand_out<const N: usize>(numbers: [u32; N], answer: &mut [u32]) -> u32 {
     for (to, number) in answer.iter_mut().zip(numbers) {
         *to = number;
     }

@@ -1,9 +1,6 @@
 //! Single calls of the model and the proved library. Compared are the number that is returned, every number of `answer` and
 //! of the tree buffer and every byte of `sequence`, all filled with something else before.
 
-use std::collections::BTreeMap;
-use std::process::ExitCode;
-
 use harness::answer::Refusal;
 use harness::format::LANGUAGE_AT;
 use harness::generate::Case;
@@ -11,7 +8,8 @@ use harness::oracle;
 use harness::rules::format;
 use harness::rules::model::{self, Pair, Table};
 
-use crate::{DIRT, hex, verdict};
+use crate::notes::Notes;
+use crate::{DIRT, hex};
 use type_name::{type_name_match, type_name_overlap};
 
 const DIRTY_BYTE: u8 = 0xa5;
@@ -48,12 +46,7 @@ impl Rules {
 
 #[derive(Default)]
 pub struct Tally {
-    pub calls: u64,
-    differ: u64,
-    /// How often each outcome was seen, by its name.
-    seen: BTreeMap<String, u64>,
-    /// The smallest input that differs, with its length.
-    smallest: Option<(usize, String)>,
+    pub notes: Notes,
 }
 
 /// What a call leaves: the number returned, `answer`, and the tree buffer or the sequence.
@@ -81,14 +74,15 @@ impl Tally {
         let found = left(lengths, DIRT, |tree, answer| {
             type_name_match(&case.file, &rules.file, tree, answer)
         });
-        self.note(match (expected.0, expected.1.get(3)) {
+        self.notes.note(match (expected.0, expected.1.get(3)) {
             (0, Some(0)) => "match: rule 0".to_owned(),
             (0, Some(_)) => "match: a later rule".to_owned(),
             (0, None) => "match: some rule, `answer` too short for its place".to_owned(),
             (number, _) => format!("match: no {number:02}"),
         });
         if expected.0 == 0 {
-            self.note(format!("a winner, language {}", case.file[LANGUAGE_AT]));
+            self.notes
+                .note(format!("a winner, language {}", case.file[LANGUAGE_AT]));
         }
         if rules.table.is_none() {
             self.note_order(case);
@@ -107,7 +101,7 @@ impl Tally {
     /// What a bad table stood beside.
     fn note_order(&mut self, case: &Case) {
         let row = oracle::answer(&case.file, &mut vec![DIRT; case.tree_len]);
-        self.note(match row.refusal() {
+        self.notes.note(match row.refusal() {
             None => "a bad table and an accepted row",
             Some(1..=Refusal::SHORT_BUFFER) => "a bad table and a row refused by 1 to 6",
             Some(_) => "a bad table and a row refused by 10 to 40",
@@ -130,14 +124,15 @@ impl Tally {
             type_name_overlap(&rules.file, numbers.0, numbers.1, sequence, answer)
         });
         let pair = rules.pair_behind(numbers);
-        self.note(match (expected.0, pair) {
+        self.notes.note(match (expected.0, pair) {
             (0, Some(_)) => "overlap: a pair".to_owned(),
             (0, None) => "overlap: no further pair".to_owned(),
             (number, _) => format!("overlap: no {number:02}"),
         });
         let input = || format!("overlap, rules {}, behind {numbers:?}", hex(&rules.file));
         if let Some((table, pair)) = pair {
-            self.hold(table.matches_shown(pair), rules.file.len(), input);
+            self.notes
+                .hold(table.matches_shown(pair), rules.file.len(), input);
         }
         self.compare(&expected, &found, rules.file.len(), input);
         match (found.0, &found.1[..]) {
@@ -148,15 +143,11 @@ impl Tally {
 
     /// Holds the pairs that a walk found to the model's.
     pub fn walked(&mut self, rules: &Rules, found: &[Pair]) {
-        self.note("whole walks");
+        self.notes.note("whole walks");
         let pairs = rules.table.as_ref().map_or(&[][..], Table::pairs);
-        self.hold(found == pairs, rules.file.len(), || {
+        self.notes.hold(found == pairs, rules.file.len(), || {
             format!("walk, rules {}: {found:?}", hex(&rules.file))
         });
-    }
-
-    fn note(&mut self, outcome: impl Into<String>) {
-        *self.seen.entry(outcome.into()).or_default() += 1;
     }
 
     /// Counts a call, and a difference if there is one.
@@ -167,38 +158,13 @@ impl Tally {
         size: usize,
         input: impl Fn() -> String,
     ) {
-        self.calls += 1;
-        self.hold(expected == found, size, || {
+        self.notes.calls += 1;
+        self.notes.hold(expected == found, size, || {
             let (wanted, got) = ((expected.0, &expected.1), (found.0, &found.1));
             let room = found.2.len();
             let from = (0..room).find(|&at| expected.2[at] != found.2[at]);
             let input = input();
             format!("{input}, room {room}: model {wanted:?}, library {got:?}, buffers differ from {from:?}")
         });
-    }
-
-    fn hold(&mut self, same: bool, size: usize, input: impl FnOnce() -> String) {
-        if same {
-            return;
-        }
-        self.differ += 1;
-        if self
-            .smallest
-            .as_ref()
-            .is_none_or(|(least, _)| size < *least)
-        {
-            self.smallest = Some((size, input()));
-        }
-    }
-
-    pub fn report(&self) -> ExitCode {
-        for (outcome, times) in &self.seen {
-            println!("{outcome}: {times}");
-        }
-        if let Some((_, input)) = &self.smallest {
-            println!("the smallest that differs: {input}");
-        }
-        println!("{} calls, {} differ", self.calls, self.differ);
-        verdict(self.differ)
     }
 }

@@ -31,7 +31,7 @@ pub fn compare(seed: u64, count: u64) -> ExitCode {
     };
     run.chosen();
     let mut cases = generate::cases(seed, None).expect("all styles");
-    while run.tally.calls < count {
+    while run.tally.notes.calls < count {
         let case = cases.next().expect("cases without end");
         run.round(&case);
         if let Ok(row) = Row::read(&case.file)
@@ -41,7 +41,7 @@ pub fn compare(seed: u64, count: u64) -> ExitCode {
             run.round(&Case { file, ..case });
         }
     }
-    run.tally.report()
+    run.tally.notes.report()
 }
 
 struct Run {
