@@ -117,7 +117,7 @@ fn the_allowance_decides_25_and_nothing_else() {
 
 #[test]
 fn exhaustive_rows_are_all_rows() {
-    for (alphabet, size) in ALPHABETS.into_iter().zip([13, 9, 7]) {
+    for (alphabet, size) in ALPHABETS.into_iter().zip([13, 9, 7, 58]) {
         let of_lengths = |lengths| exhaustive::rows(alphabet.tokens(), lengths);
         let rows: Vec<_> = of_lengths(0..=3).collect();
         assert_eq!(rows.len(), 1 + size + size * size + size * size * size);

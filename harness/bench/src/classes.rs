@@ -4,11 +4,11 @@ use std::fs;
 
 use harness::answer::Refusal;
 use harness::format::{Head, MOST_NESTING, MOST_TOKENS, Row, Token, WORD_LENGTHS};
-use harness::generate;
+use harness::generate::{self, operators};
 use harness::kind::Kind;
 use harness::names::names;
 use harness::oracle;
-use harness::profile::MEANT_STANDARD;
+use harness::profile::{HostLanguage, MEANT_STANDARD};
 
 pub struct Class {
     pub name: String,
@@ -45,8 +45,15 @@ pub fn classes(corpus: &str) -> Vec<Class> {
         }));
     }
     classes.extend(made().map(|(name, tokens)| class(name, move || vec![cpp(tokens.clone())])));
+    for (label, language) in EXPRESSIONS {
+        let name = format!("operators of {label}, 1,024 tokens");
+        classes.push(class(name, move || vec![expression(language)]));
+    }
     classes
 }
+
+const EXPRESSIONS: [(&str, HostLanguage); 2] =
+    [("C", HostLanguage::C), ("Fortran", HostLanguage::Fortran)];
 
 const CORPUS: [(&str, Option<&str>, u8); 5] = [
     ("corpus, flag 1", None, 1),
@@ -178,4 +185,27 @@ fn repeated(tokens: &[Token], count: usize) -> Vec<Token> {
 fn stars() -> Vec<Token> {
     let stars = std::iter::repeat_n(plain(Kind::Star), MOST_TOKENS - 1);
     [word("int")].into_iter().chain(stars).collect()
+}
+
+/// `a + a - a ..`: every binary operator of the language in turn, as far as a row has room.
+fn expression(language: HostLanguage) -> Row {
+    let operators: Vec<Kind> = Kind::ALL
+        .iter()
+        .copied()
+        .filter(|&kind| is_operator(language, kind))
+        .collect();
+    let around = operators::between_operands(language, &[]).tokens.len();
+    let pairs = operators.iter().cycle();
+    let tokens: Vec<Token> = pairs
+        .flat_map(|&kind| [plain(kind), word("a")])
+        .take(MOST_TOKENS - around)
+        .collect();
+    operators::between_operands(language, &tokens)
+}
+
+/// Between two operands the original takes operators, and what a name follows.
+fn is_operator(language: HostLanguage, kind: Kind) -> bool {
+    let row = operators::between_operands(language, &[plain(kind)]);
+    let accepted = oracle::answer_with_tree(&row.write()).0.refusal().is_none();
+    accepted && !matches!(kind, Kind::Dot | Kind::Arrow | Kind::Percent)
 }

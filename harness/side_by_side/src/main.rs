@@ -7,8 +7,9 @@ use std::process::ExitCode;
 use harness::answer::{Answer, Refusal};
 use harness::format::FLAG_AT;
 use harness::generate::exhaustive::{self, Alphabet};
-use harness::generate::{self, Case};
+use harness::generate::{self, Case, operators};
 use harness::oracle;
+use harness::profile::LANGUAGES;
 use type_name::{ANSWER_LENGTH, type_name_read};
 
 mod corpus;
@@ -21,7 +22,10 @@ side_by_side [--seed S] [--count N] [--style NAME]
     N generated files (default 100000, seed 1), those of the harness's styles in turn.
 side_by_side --exhaustive ALPHABET --longest N [--shortest N]
     All rows of so many tokens (from 0 unless said) over an alphabet, each under standard 255 of every language with flag 0
-    and 1. Alphabets: mixed (13 tokens), brackets (9), angles (7).
+    and 1. Alphabets: mixed (13 tokens), brackets (9), angles (7), kinds (58).
+side_by_side --operators --longest N
+    All rows of up to so many tokens, of every kind, between two operands: int[a .. a] in C and C++, real((a .. a)) in
+    Fortran, under standard 255 with flag 1.
 side_by_side --corpus FILE [--verdicts FILE]
     The type names of a file (language, source and text, parted by tabs), lexed by the original's lexer: standard 255 and
     the latest with flag 1 and 0, the earliest with flag 1. Verdicts: what each name gets with standard 255 and flag 1.
@@ -55,6 +59,8 @@ fn main() -> ExitCode {
         corpus::compare(file, options.value("--verdicts"), &mut tally)
     } else if let Some(alphabet) = options.value("--exhaustive") {
         exhaustive(alphabet, &options, &mut tally)
+    } else if options.has("--operators") {
+        between_operands(&options, &mut tally)
     } else {
         generated(&options, &mut tally)
     };
@@ -122,6 +128,16 @@ fn exhaustive(alphabet: &str, options: &Options, tally: &mut Tally) -> Result<()
         }
     }
     println!("{rows} rows");
+    Ok(())
+}
+
+fn between_operands(options: &Options, tally: &mut Tally) -> Result<(), String> {
+    let longest = options.number("--longest", None)?;
+    for tokens in exhaustive::rows(exhaustive::KINDS.tokens(), 0..=longest) {
+        for language in LANGUAGES {
+            tally.add(&operators::case(language, &tokens));
+        }
+    }
     Ok(())
 }
 

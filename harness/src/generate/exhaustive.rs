@@ -64,7 +64,14 @@ pub const ANGLES: Alphabet = Alphabet {
     ],
 };
 
-pub const ALPHABETS: [&Alphabet; 3] = [&MIXED, &BRACKETS, &ANGLES];
+/// A token of every kind.
+pub const KINDS: Alphabet = Alphabet {
+    name: "kinds",
+    words: &["a"],
+    kinds: Kind::ALL.split_at(1).1,
+};
+
+pub const ALPHABETS: [&Alphabet; 4] = [&MIXED, &BRACKETS, &ANGLES, &KINDS];
 
 impl Alphabet {
     pub fn named(name: &str) -> Option<&'static Self> {

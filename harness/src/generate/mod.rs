@@ -11,6 +11,7 @@ pub mod expression;
 pub mod fortran;
 pub mod malformed;
 pub mod mutated;
+pub mod operators;
 pub mod random;
 pub mod words;
 pub mod writer;
