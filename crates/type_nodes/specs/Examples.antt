@@ -1,14 +1,18 @@
--- Computed examples of the declaration specifiers, so that a wrong edit of a definition is refused here. The answers are those of type_name.rs to the
--- whole row, which these specifiers decide.
-use Prim.Native.Nat.{ℕ, _+_}
+-- Computed examples of the declaration specifiers and of the operators, so that a wrong edit of a definition is refused here. The answers to
+-- specifiers are those of type_name.rs to the whole row, which they decide.
+use Prim.Native.Nat.{ℕ, zero, suc, _+_}
 use mathlib.Core.Path.{_≡_, refl}
 use mathlib.Core.Bool.{Bool, true, false}
-use mathlib.Core.List.{List, [], _∷_}
+use mathlib.Core.List.{List, [], _∷_, _++_}
+use lib.ListN.{length}
 use lib.Dec.{eqb}
-use Rattle.rows.specs.Languages.{C, Cpp}
+use Rattle.rows.specs.Notation.{if_then_else_, _is-one-of_}
+use Rattle.rows.specs.Languages.{C, Cpp, Fortran}
 use Rattle.rows.specs.Kinds.{Identifier, Integer, LeftParen, RightParen, Scope, Star}
 use Rattle.rows.specs.Words.{no-word, int, double, long, signed, unsigned, const, «_BitInt», struct, class, other-case}
 use Rattle.reader.specs.Reading.{Got, got, bad, kindAt, reading}
+use Rattle.type_nodes.specs.Sets.{is-binary-or-assignment-operator}
+use Rattle.type_nodes.specs.Ranges.{_is-within-one-of_, runs, operator-ranges}
 use Rattle.type_nodes.specs.Specifiers.{validate-c-decl-specifiers}
 
 -- A row: each token an identifier, by its word number, or another token, by its kind.
@@ -107,3 +111,52 @@ leading-scope-keyword = refl
 scope-at-end : specified Cpp (name ∷ token Scope ∷ token LeftParen ∷ token Star ∷ token RightParen ∷ []) ≡ false
 unfolding specified
 scope-at-end = refl
+
+-- ---- document 02, C-13: binary and assignment operators by ranges. The numbers are the places of `TokenKind`'s variants in lexer.rs, counted by hand.
+
+-- The numbers below a bound that pass a test.
+unfoldable passing : (test : ℕ → Bool) (bound : ℕ) → List ℕ
+passing test zero = []
+passing test (suc n) = if test n then passing test n ++ (n ∷ []) else passing test n
+
+-- Of all shapes: `,` is one, 23 and 24 are Fortran's, 26 and 27 (`!` and `~`), 45 and 46 (`++` and `--`) none, 33 to 35 Fortran's.
+abbrev c-family-numbers : List ℕ
+c-family-numbers =
+    12 ∷ 19 ∷ 20 ∷ 21 ∷ 22 ∷ 25 ∷ 28 ∷ 29 ∷ 30 ∷ 31 ∷ 32 ∷ 36 ∷ 37 ∷ 38 ∷ 39 ∷ 40 ∷ 41 ∷ 42 ∷ 43 ∷ 44 ∷ 47 ∷ 48 ∷ 49 ∷ 50 ∷ 51 ∷ 52 ∷ 53 ∷ 54 ∷ 55 ∷ 56 ∷ []
+
+-- `,` and `=` (36) are two, 35 (`.name.`) is none, nor any from 43 on.
+abbrev fortran-numbers : List ℕ
+fortran-numbers = 12 ∷ 19 ∷ 20 ∷ 21 ∷ 22 ∷ 23 ∷ 24 ∷ 31 ∷ 32 ∷ 33 ∷ 34 ∷ 36 ∷ 37 ∷ 38 ∷ 39 ∷ 40 ∷ 41 ∷ 42 ∷ []
+
+-- The sets, and by ranges.
+c-operators : passing (is-binary-or-assignment-operator C) 63 ≡ c-family-numbers
+unfolding passing is-binary-or-assignment-operator
+c-operators = refl
+
+cpp-operators : passing (is-binary-or-assignment-operator Cpp) 63 ≡ c-family-numbers
+unfolding passing is-binary-or-assignment-operator
+cpp-operators = refl
+
+fortran-operators : passing (is-binary-or-assignment-operator Fortran) 63 ≡ fortran-numbers
+unfolding passing is-binary-or-assignment-operator
+fortran-operators = refl
+
+within-ranges : (lang : ℕ) → List ℕ
+within-ranges lang = passing (λ k. k is-within-one-of operator-ranges lang) 63
+
+by-ranges : within-ranges C ∷ within-ranges Cpp ∷ within-ranges Fortran ∷ [] ≡ c-family-numbers ∷ c-family-numbers ∷ fortran-numbers ∷ []
+unfolding within-ranges passing _is-within-one-of_ operator-ranges
+by-ranges = refl
+
+-- Six ranges and four.
+how-many-ranges : length (operator-ranges C) ∷ length (operator-ranges Cpp) ∷ length (operator-ranges Fortran) ∷ [] ≡ 6 ∷ 6 ∷ 4 ∷ []
+unfolding operator-ranges
+how-many-ranges = refl
+
+-- Runs of no kind, of the first alone, of the last alone, of two neighbours and one apart, of all.
+runs-of : List ℕ → ℕ
+runs-of set = runs (λ k. k is-one-of set) 5
+
+how-many-runs : runs-of [] ∷ runs-of (0 ∷ []) ∷ runs-of (4 ∷ []) ∷ runs-of (3 ∷ 0 ∷ 1 ∷ []) ∷ runs-of (0 ∷ 1 ∷ 2 ∷ 3 ∷ 4 ∷ []) ∷ [] ≡ 0 ∷ 1 ∷ 1 ∷ 2 ∷ 1 ∷ []
+unfolding runs-of runs _is-one-of_
+how-many-runs = refl

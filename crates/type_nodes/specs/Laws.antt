@@ -1,4 +1,7 @@
+pub mod Bounds
 pub mod Chains
+pub mod Runs
+pub mod OperatorRanges
 pub mod Counts
 pub mod Siblings
 pub mod Commas

@@ -1,6 +1,7 @@
 pub mod Shapes
 pub mod Nodes
 pub mod Sets
+pub mod Ranges
 pub mod SplitOnCommas
 pub mod AbstractDeclarators
 pub mod Moves
@@ -9,4 +10,5 @@ pub mod Specifiers
 pub mod Stands
 pub mod RepresentedSpecifiers
 pub mod Laws
+pub mod Theorems
 pub mod Examples

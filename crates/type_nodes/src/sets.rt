@@ -3,52 +3,34 @@
 use crate::shapes::BRACKETED;
 use crate::shapes::PARENTHESIZED;
 use rows::kinds::AMPERSAND;
-use rows::kinds::AMPERSAND_EQUAL;
 use rows::kinds::ARROW;
 use rows::kinds::BITWISE_NOT;
 use rows::kinds::BOOLEAN;
-use rows::kinds::CARET;
-use rows::kinds::CARET_EQUAL;
 use rows::kinds::CHARACTER;
 use rows::kinds::COMMA;
 use rows::kinds::CONCAT;
 use rows::kinds::DOT;
 use rows::kinds::EQUAL;
-use rows::kinds::EQUAL_EQUAL;
-use rows::kinds::GREATER;
 use rows::kinds::GREATER_EQUAL;
 use rows::kinds::INTEGER;
-use rows::kinds::LESS;
-use rows::kinds::LESS_EQUAL;
 use rows::kinds::LOGICAL_AND;
-use rows::kinds::LOGICAL_EQV;
 use rows::kinds::LOGICAL_NEQV;
 use rows::kinds::LOGICAL_NOT;
 use rows::kinds::LOGICAL_OR;
 use rows::kinds::MINUS;
-use rows::kinds::MINUS_EQUAL;
 use rows::kinds::MINUS_MINUS;
-use rows::kinds::NOT_EQUAL;
 use rows::kinds::NULL_POINTER;
 use rows::kinds::PERCENT;
-use rows::kinds::PIPE;
-use rows::kinds::PIPE_EQUAL;
 use rows::kinds::PLUS;
 use rows::kinds::PLUS_EQUAL;
 use rows::kinds::PLUS_PLUS;
-use rows::kinds::POWER;
 use rows::kinds::REAL;
 use rows::kinds::REMAINDER;
-use rows::kinds::REMAINDER_EQUAL;
 use rows::kinds::SCOPE;
-use rows::kinds::SHIFT_LEFT;
-use rows::kinds::SHIFT_LEFT_EQUAL;
 use rows::kinds::SHIFT_RIGHT;
 use rows::kinds::SHIFT_RIGHT_EQUAL;
 use rows::kinds::SLASH;
-use rows::kinds::SLASH_EQUAL;
 use rows::kinds::STAR;
-use rows::kinds::STAR_EQUAL;
 use rows::kinds::STRING;
 use rows::languages::FORTRAN;
 use rows::word_numbers::ATOMIC;
@@ -95,7 +77,8 @@ use rows::word_numbers::VOLATILE;
 use rows::word_numbers::WCHAR_T;
 ghost use mathlib.Core.Path.{_≡_};
 ghost use Rattle.rows.specs.Notation.{_is-one-of_};
-ghost use Rattle.type_nodes.specs.Sets.{accesses-of, c-family-operators, cpp-elaborated-words, declarator-starts, derived-type-words, elaborated-words, fortran-operators, is-binary-or-assignment-operator, is-c-builtin-type-word, is-c-family-declarator-qualifier, is-keyword, literals, member-accesses, parenthesis-words, postfix-operators, prefix-operators, prefix-or-binary-operators, reference-operators, signs, typeof-words, words-after-double};
+ghost use Rattle.type_nodes.specs.Ranges.{_is-within-one-of_, c-family-ranges, fortran-ranges};
+ghost use Rattle.type_nodes.specs.Sets.{accesses-of, cpp-elaborated-words, declarator-starts, derived-type-words, elaborated-words, is-binary-or-assignment-operator, is-c-builtin-type-word, is-c-family-declarator-qualifier, is-keyword, literals, member-accesses, parenthesis-words, postfix-operators, prefix-operators, prefix-or-binary-operators, reference-operators, signs, typeof-words, words-after-double};
 
 pub fn is_c_builtin_type_word(word: u8) -> bool
     ensures { λ r. ⌜ r ≡ is-c-builtin-type-word word ⌝ }
@@ -255,62 +238,25 @@ pub fn is_postfix_operator(shape: u8) -> bool
     (shape == PLUS_PLUS) | (shape == MINUS_MINUS)
 }
 
+// A range of kinds a line, named by its first and last: specs/Ranges.antt.
 fn is_c_family_operator(kind: u8) -> bool
-    ensures { λ r. ⌜ r ≡ (kind is-one-of c-family-operators) ⌝ }
+    ensures { λ r. ⌜ r ≡ (kind is-within-one-of c-family-ranges) ⌝ }
 {
-    (kind == PLUS)
-        | (kind == MINUS)
-        | (kind == STAR)
-        | (kind == SLASH)
-        | (kind == REMAINDER)
-        | (kind == AMPERSAND)
-        | (kind == PIPE)
-        | (kind == CARET)
-        | (kind == LOGICAL_AND)
-        | (kind == LOGICAL_OR)
-        | (kind == EQUAL)
-        | (kind == EQUAL_EQUAL)
-        | (kind == NOT_EQUAL)
-        | (kind == LESS)
-        | (kind == LESS_EQUAL)
-        | (kind == GREATER)
-        | (kind == GREATER_EQUAL)
-        | (kind == SHIFT_LEFT)
-        | (kind == SHIFT_RIGHT)
-        | (kind == PLUS_EQUAL)
-        | (kind == MINUS_EQUAL)
-        | (kind == STAR_EQUAL)
-        | (kind == SLASH_EQUAL)
-        | (kind == REMAINDER_EQUAL)
-        | (kind == AMPERSAND_EQUAL)
-        | (kind == PIPE_EQUAL)
-        | (kind == CARET_EQUAL)
-        | (kind == SHIFT_LEFT_EQUAL)
-        | (kind == SHIFT_RIGHT_EQUAL)
-        | (kind == COMMA)
+    ((PLUS <= kind) & (kind <= SLASH))
+        | ((REMAINDER <= kind) & (kind <= REMAINDER))
+        | ((AMPERSAND <= kind) & (kind <= LOGICAL_OR))
+        | ((EQUAL <= kind) & (kind <= SHIFT_RIGHT))
+        | ((PLUS_EQUAL <= kind) & (kind <= SHIFT_RIGHT_EQUAL))
+        | ((COMMA <= kind) & (kind <= COMMA))
 }
 
 fn is_fortran_operator(kind: u8) -> bool
-    ensures { λ r. ⌜ r ≡ (kind is-one-of fortran-operators) ⌝ }
+    ensures { λ r. ⌜ r ≡ (kind is-within-one-of fortran-ranges) ⌝ }
 {
-    (kind == PLUS)
-        | (kind == MINUS)
-        | (kind == STAR)
-        | (kind == SLASH)
-        | (kind == POWER)
-        | (kind == CONCAT)
-        | (kind == LOGICAL_AND)
-        | (kind == LOGICAL_OR)
-        | (kind == LOGICAL_EQV)
-        | (kind == LOGICAL_NEQV)
-        | (kind == EQUAL)
-        | (kind == EQUAL_EQUAL)
-        | (kind == NOT_EQUAL)
-        | (kind == LESS)
-        | (kind == LESS_EQUAL)
-        | (kind == GREATER)
-        | (kind == GREATER_EQUAL)
-        | (kind == COMMA)
+    ((PLUS <= kind) & (kind <= CONCAT))
+        | ((LOGICAL_AND <= kind) & (kind <= LOGICAL_NEQV))
+        | ((EQUAL <= kind) & (kind <= GREATER_EQUAL))
+        | ((COMMA <= kind) & (kind <= COMMA))
 }
 
 pub fn is_binary_or_assignment_operator(language: u8, kind: u8) -> bool

@@ -1,38 +1,26 @@
 -- The walks over a list of words that count those seen. Assumes nothing.
 use Prim.Native.Nat.{ℕ, zero, suc, _+_, _≤_, _<_}
-use mathlib.Core.Path.{_≡_, refl, sym, ap, _∙_}
-use mathlib.Core.Bool.{Bool, true, false, true≢false, _&&_, _||_, not}
+use mathlib.Core.Path.{_≡_, refl, sym, _∙_}
+use mathlib.Core.Bool.{Bool, true, false, _&&_, _||_, not}
 use mathlib.Core.List.{List, [], _∷_}
 use native.Mathlib.Omega.{arith}
 use native.Mathlib.Numerals.{add-one}
 use lib.ListN.{length, getD, drop, drop-of-length-le}
 use lib.Seq.{drop-cons}
 use lib.Dec.{ltb, eqb, eqb·zero-suc, eqb·suc-zero, eqb·suc-suc}
-use borrow.Author.Tests.{lt-ltb, ltb-true}
+use borrow.Author.Tests.{lt-ltb}
 use Rattle.rows.specs.Notation.{if_then_else_, _is-one-of_}
 use Rattle.rows.specs.Words.{long}
 use Rattle.rows.specs.Laws.Tests.{or-false, or-assoc}
 use Rattle.type_nodes.specs.Sets.{builtin-type-words, is-c-builtin-type-word}
 use Rattle.type_nodes.specs.Combination.{times, has, once-more, how-many, builtin-words, no-builtin-word, too-often, counted-words}
 use Rattle.type_nodes.specs.RepresentedSpecifiers.{HaveCounts}
+use Rattle.type_nodes.specs.Laws.Bounds.{all-below, first-below, others-below}
 
-unfoldable pub all-counted : List ℕ → Bool
-all-counted [] = true
-all-counted (w ∷ ws) = ltb w counted-words && all-counted ws
-
-pub and-left : (a b : Bool) → (a && b) ≡ true → a ≡ true
-and-left true b e = refl
-and-left false b e = e
-
-pub and-right : (a b : Bool) → (a && b) ≡ true → b ≡ true
-and-right true b e = e
-and-right false b e = absurd (true≢false (sym e))
-
-pub counted : (ws : List ℕ) → all-counted ws ≡ true → HaveCounts ws
-unfolding all-counted
+pub counted : (ws : List ℕ) → all-below counted-words ws ≡ true → HaveCounts ws
 counted [] h i p = absurd (omega arith)
-counted (w ∷ ws) h zero p = ltb-true w counted-words (and-left (ltb w counted-words) (all-counted ws) h)
-counted (w ∷ ws) h (suc i) p = counted ws (and-right (ltb w counted-words) (all-counted ws) h) i (omega arith)
+counted (w ∷ ws) h zero p = first-below counted-words w ws h
+counted (w ∷ ws) h (suc i) p = counted ws (others-below counted-words w ws h) i (omega arith)
 
 pub all-left : (words seen : List ℕ) → 0 + how-many (drop 0 words) seen ≡ how-many words seen
 all-left words seen = omega arith

@@ -1,11 +1,10 @@
 -- The arms of the specifiers' table of moves, and the words that are counted. Assumes nothing.
 use Prim.Native.Nat.{ℕ, _<_}
-use mathlib.Core.Path.{_≡_, refl, sym, ap, _∙_}
-use mathlib.Core.Bool.{Bool, true, false, true≢false, _&&_}
-use mathlib.Core.List.{List, [], _∷_}
-use native.Mathlib.Omega.{arith}
-use lib.Dec.{eqb, ltb}
-use borrow.Author.Tests.{ltb-true, eqb-true}
+use mathlib.Core.Path.{_≡_, refl, ap, _∙_}
+use mathlib.Core.Bool.{Bool, true, false, _&&_}
+use mathlib.Core.List.{List}
+use lib.Dec.{eqb}
+use borrow.Author.Tests.{eqb-true}
 use Rattle.rows.specs.Notation.{_is-one-of_}
 use Rattle.rows.specs.Kinds.{Identifier, Scope}
 use Rattle.type_nodes.specs.Shapes.{Parenthesized, TemplateArguments}
@@ -14,7 +13,7 @@ use Rattle.type_nodes.specs.Moves.{Move, stop, on}
 use Rattle.type_nodes.specs.Specifiers.{Specifiers, specifiers-end, parenthesis-word, qualifier-word, elaborated-word, builtin-word, name-word, specifier-scope, specifier-list, specifier-node}
 use Rattle.type_nodes.specs.Combination.{counted-words}
 use Rattle.type_nodes.specs.RepresentedSpecifiers.{SpecifierMoves}
-use Rattle.type_nodes.specs.Laws.Counts.{all-counted, and-left, and-right}
+use Rattle.type_nodes.specs.Laws.Bounds.{and-left, all-below, one-below}
 use Rattle.type_nodes.specs.declared.specifiers.SpecifierMove.{SpecifierMove}
 
 -- The same move by another name.
@@ -23,22 +22,13 @@ moved w e = record { is = w .is ∙ e; known = w .known }
 
 -- ---- words that are counted
 
-one-counted : (w : ℕ) (ws : List ℕ) → all-counted ws ≡ true → (w is-one-of ws) ≡ true → w < counted-words
-unfolding all-counted _is-one-of_
-one-counted w [] a h = absurd (true≢false (sym h))
-one-counted w (v ∷ ws) a h =
-    elim (eqb w v) as (λ t. eqb w v ≡ t → w < counted-words) [
-      | true ↦ λ e. omega (arith, eqb-true w v e, ltb-true v counted-words (and-left (ltb v counted-words) (all-counted ws) a))
-      | false ↦ λ e. one-counted w ws (and-right (ltb v counted-words) (all-counted ws) a) (rw e at h)
-    ] refl
-
 pub builtin-counted : (w : ℕ) → is-c-builtin-type-word w ≡ true → w < counted-words
-unfolding is-c-builtin-type-word builtin-type-words all-counted
-builtin-counted w h = one-counted w builtin-type-words refl h
+unfolding is-c-builtin-type-word builtin-type-words all-below
+builtin-counted w h = one-below counted-words w builtin-type-words refl h
 
 pub qualifier-counted : (w : ℕ) → is-c-family-declarator-qualifier w ≡ true → w < counted-words
-unfolding is-c-family-declarator-qualifier declarator-qualifiers all-counted
-qualifier-counted w h = one-counted w declarator-qualifiers refl h
+unfolding is-c-family-declarator-qualifier declarator-qualifiers all-below
+qualifier-counted w h = one-below counted-words w declarator-qualifiers refl h
 
 -- ---- the table: where the tests before an arm fail and its own holds, the table gives the arm's move
 

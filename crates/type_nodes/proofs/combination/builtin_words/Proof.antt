@@ -4,7 +4,8 @@ use native.Mathlib.Omega.{arith}
 use borrow.Author.Needs.{needs}
 use Rattle.type_nodes.specs.Sets.{builtin-type-words}
 use Rattle.type_nodes.specs.Combination.{builtin-words}
-use Rattle.type_nodes.specs.Laws.Counts.{all-counted, counted}
+use Rattle.type_nodes.specs.Laws.Bounds.{all-below}
+use Rattle.type_nodes.specs.Laws.Counts.{counted}
 use borrow.Author.Needs.{needs}
 use Rattle.type_nodes.proofs.combination.builtin_words.Statement.{statement}
 use Rattle.type_nodes.proofs.combination.builtin_words.Tie as tie
@@ -16,7 +17,7 @@ slice-aggregate-how-many : tie.Need-slice-aggregate-how-many
 slice-aggregate-how-many c = search needs
 
 how-many-requires : tie.Need-how-many-requires
-unfolding builtin-type-words all-counted
+unfolding builtin-type-words all-below
 how-many-requires c κs = counted builtin-type-words refl
 
 returns : tie.Need-returns

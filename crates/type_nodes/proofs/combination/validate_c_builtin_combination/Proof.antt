@@ -4,7 +4,8 @@ use native.Mathlib.Omega.{arith}
 use borrow.Author.Needs.{needs}
 use Rattle.type_nodes.specs.Sets.{builtin-type-words, scalar-bases}
 use Rattle.type_nodes.specs.Combination.{validate-c-builtin-combination}
-use Rattle.type_nodes.specs.Laws.Counts.{all-counted, counted}
+use Rattle.type_nodes.specs.Laws.Bounds.{all-below}
+use Rattle.type_nodes.specs.Laws.Counts.{counted}
 use borrow.Author.Needs.{needs}
 use Rattle.type_nodes.proofs.combination.validate_c_builtin_combination.Statement.{
   statement,
@@ -34,14 +35,14 @@ slice-aggregate-too-often : tie.Need-slice-aggregate-too-often
 slice-aggregate-too-often c = search needs
 
 too-often-requires : tie.Need-too-often-requires
-unfolding builtin-type-words all-counted
+unfolding builtin-type-words all-below
 too-often-requires c κs = counted builtin-type-words refl
 
 slice-aggregate-how-many : tie.Need-slice-aggregate-how-many
 slice-aggregate-how-many c = search needs
 
 how-many-requires : tie.Need-how-many-requires
-unfolding scalar-bases all-counted
+unfolding scalar-bases all-below
 how-many-requires c κs = counted scalar-bases refl
 
 has-requires-5 : tie.Need-has-requires-5
