@@ -119,27 +119,27 @@ unfoldable passing : (test : ℕ → Bool) (bound : ℕ) → List ℕ
 passing test zero = []
 passing test (suc n) = if test n then passing test n ++ (n ∷ []) else passing test n
 
--- Of all shapes: `,` is one, 23 and 24 are Fortran's, 26 and 27 (`!` and `~`), 45 and 46 (`++` and `--`) none, 33 to 35 Fortran's.
+-- Of all shapes: 12 (`,`) is one; 23, 24 and 33 to 35 are Fortran's alone; 26 and 27 (`!`, `~`), 45 and 46 (`++`, `--`) are none.
 abbrev c-family-numbers : List ℕ
 c-family-numbers =
     12 ∷ 19 ∷ 20 ∷ 21 ∷ 22 ∷ 25 ∷ 28 ∷ 29 ∷ 30 ∷ 31 ∷ 32 ∷ 36 ∷ 37 ∷ 38 ∷ 39 ∷ 40 ∷ 41 ∷ 42 ∷ 43 ∷ 44 ∷ 47 ∷ 48 ∷ 49 ∷ 50 ∷ 51 ∷ 52 ∷ 53 ∷ 54 ∷ 55 ∷ 56 ∷ []
 
--- `,` and `=` (36) are two, 35 (`.name.`) is none, nor any from 43 on.
+-- 12 (`,`) and 36 (`=`) are of them; 25 (C's `%`), 35 (`.name.`) and all from 43 on are not.
 abbrev fortran-numbers : List ℕ
 fortran-numbers = 12 ∷ 19 ∷ 20 ∷ 21 ∷ 22 ∷ 23 ∷ 24 ∷ 31 ∷ 32 ∷ 33 ∷ 34 ∷ 36 ∷ 37 ∷ 38 ∷ 39 ∷ 40 ∷ 41 ∷ 42 ∷ []
 
--- The sets, and by ranges.
-c-operators : passing (is-binary-or-assignment-operator C) 63 ≡ c-family-numbers
+-- By the sets, then by the ranges.
+operators-of-c : passing (is-binary-or-assignment-operator C) 63 ≡ c-family-numbers
 unfolding passing is-binary-or-assignment-operator
-c-operators = refl
+operators-of-c = refl
 
-cpp-operators : passing (is-binary-or-assignment-operator Cpp) 63 ≡ c-family-numbers
+operators-of-cpp : passing (is-binary-or-assignment-operator Cpp) 63 ≡ c-family-numbers
 unfolding passing is-binary-or-assignment-operator
-cpp-operators = refl
+operators-of-cpp = refl
 
-fortran-operators : passing (is-binary-or-assignment-operator Fortran) 63 ≡ fortran-numbers
+operators-of-fortran : passing (is-binary-or-assignment-operator Fortran) 63 ≡ fortran-numbers
 unfolding passing is-binary-or-assignment-operator
-fortran-operators = refl
+operators-of-fortran = refl
 
 within-ranges : (lang : ℕ) → List ℕ
 within-ranges lang = passing (λ k. k is-within-one-of operator-ranges lang) 63

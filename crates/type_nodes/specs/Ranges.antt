@@ -17,6 +17,7 @@ pub record Range : Type 0 where
   pub last : ℕ
 
 infix 70 _to_
+-- The range from one number to another.
 abbrev pub _to_ : (first last : ℕ) → Range
 first to last = record { first = first; last = last }
 

@@ -65,16 +65,20 @@ module _ (r : Range) (f : ℕ → Bool) where
       let neither : with-range n ≡ false = not-true (with-range n) (and-right (with-range (suc n)) (not (with-range n)) h) in
       let not-f : f n ≡ false = neither-right (n is-within r) (f n) neither in
       let no-next : (f (suc n) && true) ≡ false = rw not-f at e in
-      let within : (suc n is-within r) ≡ true = or-left (suc n is-within r) (f (suc n)) (and-left (with-range (suc n)) (not (with-range n)) h) (sym (and-true (f (suc n))) ∙ no-next) in
+      let either : with-range (suc n) ≡ true = and-left (with-range (suc n)) (not (with-range n)) h in
+      let within : (suc n is-within r) ≡ true = or-left (suc n is-within r) (f (suc n)) either (sym (and-true (f (suc n))) ∙ no-next) in
       omega (arith, first-le r (suc n) within, before-first r n (neither-left (n is-within r) (f n) neither) (omega (arith, le-last r (suc n) within)))
 
   -- Up to the range's first number there is no run more, after it at most one.
-  few-more : (n : ℕ) → (n ≤ r .first → runs with-range n ≤ runs f n) × (runs with-range n ≤ suc (runs f n))
+  abbrev Few : (n more runs-of-f : ℕ) → Type 0
+  Few n more runs-of-f = (n ≤ r .first → more ≤ runs-of-f) × (more ≤ suc runs-of-f)
+
+  few-more : (n : ℕ) → Few n (runs with-range n) (runs f n)
   unfolding runs
   few-more zero = (λ p. omega arith, omega arith)
   few-more (suc n) =
-      elim (begins-run with-range n) as (λ b. begins-run with-range n ≡ b → (suc n ≤ r .first → runs with-range n + (if b then 1 else 0) ≤ runs f (suc n)) × (runs with-range n + (if b then 1 else 0) ≤ suc (runs f (suc n)))) [
-        | true ↦ λ e. elim (begins-run f n) as (λ b. begins-run f n ≡ b → (suc n ≤ r .first → runs with-range n + 1 ≤ runs f n + (if b then 1 else 0)) × (runs with-range n + 1 ≤ suc (runs f n + (if b then 1 else 0)))) [
+      elim (begins-run with-range n) as (λ b. begins-run with-range n ≡ b → Few (suc n) (runs with-range n + (if b then 1 else 0)) (runs f (suc n))) [
+        | true ↦ λ e. elim (begins-run f n) as (λ b. begins-run f n ≡ b → Few (suc n) (runs with-range n + 1) (runs f n + (if b then 1 else 0))) [
           | true ↦ λ g. (λ p. omega (arith, few-more n .0 (omega arith)), omega (arith, few-more n .1))
           | false ↦ λ g. (λ p. absurd (omega (arith, new-run n e g)), omega (arith, few-more n .0 (omega (arith, new-run n e g))))
         ] refl
