@@ -1,3 +1,4 @@
+pub mod Tests
 pub mod Bounds
 pub mod Chains
 pub mod Runs

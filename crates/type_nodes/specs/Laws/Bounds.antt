@@ -7,14 +7,7 @@ use native.Mathlib.Omega.{arith}
 use lib.Dec.{ltb, eqb}
 use borrow.Author.Tests.{ltb-true, eqb-true}
 use Rattle.rows.specs.Notation.{_is-one-of_}
-
-pub and-left : (a b : Bool) → (a && b) ≡ true → a ≡ true
-and-left true b e = refl
-and-left false b e = e
-
-pub and-right : (a b : Bool) → (a && b) ≡ true → b ≡ true
-and-right true b e = e
-and-right false b e = absurd (true≢false (sym e))
+use Rattle.type_nodes.specs.Laws.Tests.{and-left, and-right}
 
 unfoldable pub all-below : (bound : ℕ) → List ℕ → Bool
 all-below b [] = true

@@ -12,7 +12,8 @@ use Rattle.rows.specs.Languages.{Fortran}
 use Rattle.rows.specs.Laws.Tests.{and-false}
 use Rattle.type_nodes.specs.Sets.{c-family-operators, fortran-operators, is-binary-or-assignment-operator}
 use Rattle.type_nodes.specs.Ranges.{Range, _is-within_, _is-within-one-of_, kind-count, runs, c-family-ranges, fortran-ranges, operator-ranges}
-use Rattle.type_nodes.specs.Laws.Bounds.{and-left, and-right, all-below, first-below, others-below, none-from}
+use Rattle.type_nodes.specs.Laws.Tests.{and-left, and-right}
+use Rattle.type_nodes.specs.Laws.Bounds.{all-below, first-below, others-below, none-from}
 
 -- ---- two tests of a number, compared at every number below a bound
 

@@ -1,7 +1,7 @@
 -- Runs of neighbouring kinds, and how many ranges a set needs: a range more makes at most one run more. Assumes nothing.
 use Prim.Native.Nat.{ℕ, zero, suc, _+_, _≤_, _<_}
 use mathlib.Core.Path.{_≡_, refl, sym, _∙_}
-use mathlib.Core.Bool.{Bool, true, false, true≢false, not, _&&_, _||_}
+use mathlib.Core.Bool.{Bool, true, false, not, _&&_, _||_}
 use mathlib.Core.List.{List, [], _∷_}
 use native.Mathlib.Omega.{arith}
 use lib.ListN.{length}
@@ -10,7 +10,7 @@ use borrow.Author.Tests.{leb-true, leb-false, le-leb, not-true}
 use Rattle.rows.specs.Notation.{if_then_else_}
 use Rattle.rows.specs.Laws.Tests.{and-true}
 use Rattle.type_nodes.specs.Ranges.{Range, _is-within_, _is-within-one-of_, begins-run, runs}
-use Rattle.type_nodes.specs.Laws.Bounds.{and-left, and-right}
+use Rattle.type_nodes.specs.Laws.Tests.{and-left, and-right, or-left, neither-left, neither-right}
 
 -- ---- sets that agree below a bound have the same runs there
 
@@ -25,18 +25,6 @@ runs-alike f g zero h = refl
 runs-alike f g (suc n) h = rw (runs-alike f g n (λ k p. h k (omega arith)), begins-alike f g n h) refl
 
 -- ---- a set and a range more
-
-or-left : (a b : Bool) → (a || b) ≡ true → b ≡ false → a ≡ true
-or-left true b h e = refl
-or-left false b h e = absurd (true≢false (sym h ∙ e))
-
-neither-left : (a b : Bool) → (a || b) ≡ false → a ≡ false
-neither-left true b h = h
-neither-left false b h = refl
-
-neither-right : (a b : Bool) → (a || b) ≡ false → b ≡ false
-neither-right true b h = absurd (true≢false h)
-neither-right false b h = h
 
 module _ (r : Range) (k : ℕ) where
   first-le : (k is-within r) ≡ true → r .first ≤ k

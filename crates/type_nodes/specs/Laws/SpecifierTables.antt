@@ -13,7 +13,8 @@ use Rattle.type_nodes.specs.Moves.{Move, stop, on}
 use Rattle.type_nodes.specs.Specifiers.{Specifiers, specifiers-end, parenthesis-word, qualifier-word, elaborated-word, builtin-word, name-word, specifier-scope, specifier-list, specifier-node}
 use Rattle.type_nodes.specs.Combination.{counted-words}
 use Rattle.type_nodes.specs.RepresentedSpecifiers.{SpecifierMoves}
-use Rattle.type_nodes.specs.Laws.Bounds.{and-left, all-below, one-below}
+use Rattle.type_nodes.specs.Laws.Tests.{and-left}
+use Rattle.type_nodes.specs.Laws.Bounds.{all-below, one-below}
 use Rattle.type_nodes.specs.declared.specifiers.SpecifierMove.{SpecifierMove}
 
 -- The same move by another name.

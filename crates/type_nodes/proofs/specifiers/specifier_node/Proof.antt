@@ -4,7 +4,7 @@ use lib.Dec.{eqb}
 use borrow.Author.Needs.{needs}
 use borrow.Author.Tests.{eq-eqb, ne-eqb}
 use Rattle.rows.specs.Kinds.{Identifier}
-use Rattle.type_nodes.specs.Laws.Bounds.{and-right}
+use Rattle.type_nodes.specs.Laws.Tests.{and-right}
 use Rattle.type_nodes.specs.Laws.SpecifierTables.{moved, builtin-counted, qualifier-counted, specifier-1, specifier-2, specifier-3, specifier-4, specifier-5, specifier-6, specifier-7, specifier-8, specifier-9}
 use borrow.Author.Needs.{needs}
 use Rattle.type_nodes.proofs.specifiers.specifier_node.Statement.{statement}
