@@ -23,9 +23,9 @@ static size_t build(uint8_t *file, size_t room)
 {
     size_t length = type_name_put_head(file, room, TYPE_NAME_LANGUAGE_CPP, TYPE_NAME_STANDARD_DEFAULT,
                                        TYPE_NAME_STRUCTURE_CHECK_ON, TYPE_NAME_AMPLE_ALLOWANCE);
-    uint32_t at = 0;
+    uint64_t at = 0;
     for (size_t i = 0; i < TOKENS; i++) {
-        uint32_t size = (uint32_t)strlen(tokens[i].text);
+        size_t size = strlen(tokens[i].text);
         length = type_name_put_token(file, room, length, tokens[i].kind, tokens[i].text, size, at, at + size);
         at += size;
     }

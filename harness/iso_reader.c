@@ -5,7 +5,7 @@
 #include <stdio.h>
 #include "type_name.h"
 
-static uint8_t file[65537];
+static uint8_t file[131073];
 static uint32_t tree[6 * 1024];
 
 int main(void) {

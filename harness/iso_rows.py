@@ -112,11 +112,11 @@ def tokens(language, standard, text):
 
 
 def record(kind, word='', start=0, end=0):
-    return struct.pack('<HHII', 12 + len(word), kind, start, end) + word.encode()
+    return struct.pack('<HHQQ', 20 + len(word), kind, start, end) + word.encode()
 
 
 def head(language, standard, flag, allowance=1000000):
-    return struct.pack('<HHBBBI', 11, 256, LANGUAGES[language], standard, flag, allowance)
+    return struct.pack('<HHBBBI', 11, 261, LANGUAGES[language], standard, flag, allowance)
 
 
 def row_file(language, standard, flag, found):

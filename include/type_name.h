@@ -1,7 +1,7 @@
 /* Reads type names, one or a comma list of them: a file of token records in, trees of node records or a numbered refusal
- * out; and says which rule of a table wins for a type name, and which rules overlap. docs/FORMAT.md describes the files, the
- * tree and the refusals, with examples; examples/build.c, examples/list.c and examples/rules.c are programs that use all of
- * this. */
+ * out; says which rule of a table wins for a type name, and which rules overlap; and brings over files of the old format.
+ * docs/FORMAT.md describes the files, the tree and the refusals, with examples; examples/build.c, examples/list.c,
+ * examples/rules.c and examples/convert.c are programs that use all of this. */
 #ifndef TYPE_NAME_H
 #define TYPE_NAME_H
 
@@ -19,7 +19,7 @@ extern "C" {
 
 /* ---- limits and lengths */
 
-#define TYPE_NAME_MOST_BYTES 65536    /* of a file */
+#define TYPE_NAME_MOST_BYTES 131072   /* of a file */
 #define TYPE_NAME_MOST_TOKENS 1024    /* of a row */
 #define TYPE_NAME_MOST_NESTING 64     /* of groups and lists in each other */
 #define TYPE_NAME_LONGEST_WORD 255    /* in bytes */
@@ -27,9 +27,15 @@ extern "C" {
 #define TYPE_NAME_GREATEST_WORD_BYTE 126
 
 #define TYPE_NAME_HEAD_LENGTH 11      /* bytes of the head record */
-#define TYPE_NAME_HEAD_KIND 256
+#define TYPE_NAME_HEAD_KIND 261
 #define TYPE_NAME_ALLOWANCE_AT 7      /* where the head has its allowance, 4 bytes */
-#define TYPE_NAME_TOKEN_LENGTH 12     /* bytes of a token record without its word */
+#define TYPE_NAME_TOKEN_LENGTH 20     /* bytes of a token record without its word */
+
+/* Of the old format, which type_name_widen and type_name_narrow alone know. */
+#define TYPE_NAME_OLD_MOST_BYTES 65536
+#define TYPE_NAME_OLD_HEAD_KIND 256
+#define TYPE_NAME_OLD_TOKEN_LENGTH 12
+#define TYPE_NAME_MOST_WIDENED 73728  /* bytes of `output` that are enough for every file that type_name_widen accepts */
 
 #define TYPE_NAME_NODE_WIDTH 3        /* numbers of a node record: kind, token, extent */
 #define TYPE_NAME_NUMBERS_PER_TOKEN 6 /* numbers of `tree` that a row needs for each token */
@@ -180,12 +186,13 @@ enum type_name_node_kind {
 
 /* Refusals; where a token or a detail is given, what it is. */
 enum type_name_error {
-    TYPE_NAME_ERROR_FILE_TOO_LONG = 1,                     /* over TYPE_NAME_MOST_BYTES bytes */
+    TYPE_NAME_ERROR_FILE_TOO_LONG = 1,                     /* over TYPE_NAME_MOST_BYTES bytes; old format: over 65,536 */
     TYPE_NAME_ERROR_INVALID_HEAD = 2,                      /* head record cut off, or its length, kind or structure flag wrong */
     TYPE_NAME_ERROR_UNKNOWN_PROFILE = 3,                   /* no such language or standard */
     TYPE_NAME_ERROR_INVALID_RECORD = 4,                    /* token record malformed; detail: its byte offset */
     TYPE_NAME_ERROR_TOO_MANY_RECORDS = 5,                  /* over TYPE_NAME_MOST_TOKENS tokens */
-    TYPE_NAME_ERROR_SHORT_BUFFER = 6,                      /* `tree` has too few numbers, or `sequence` too few bytes */
+    TYPE_NAME_ERROR_SHORT_BUFFER = 6,                      /* `tree`, `sequence` or `output` is too short */
+    TYPE_NAME_ERROR_OFFSET_OVER_32_BITS = 7,               /* a span ends at 2^32 or later; of type_name_narrow alone */
     TYPE_NAME_ERROR_EMPTY = 10,                            /* no token */
     TYPE_NAME_ERROR_UNEXPECTED_CLOSING_DELIMITER = 11,     /* token; detail: 0, or a type_name_delimiter that was open */
     TYPE_NAME_ERROR_UNEXPECTED_ANGLE = 12,                 /* token */
@@ -249,7 +256,7 @@ enum type_name_delimiter {
  *     sees to this.
  *
  * The allowance, in the file's head, bounds the work: a step takes some 15 ns, and there are rows of 64 tokens that take
- * more than four thousand million. With the greatest allowance such a file, of 811 bytes, runs for a minute.
+ * more than four thousand million. With the greatest allowance such a file, of 1,323 bytes, runs for a minute.
  * Whoever takes files from others lowers it with type_name_limit_allowance.
  *
  * It calls memcpy and memset of the C library, allocates nothing and keeps no state, so that threads may call it at the
@@ -330,6 +337,42 @@ uint32_t type_name_overlap(const uint8_t *rules, size_t rules_len,
                            uint8_t *sequence, size_t sequence_len,
                            uint32_t *answer, size_t answer_len);
 
+/* ---- the old format */
+
+/* Brings the `file_len` bytes at `file`, a file in the old format, over to the format that all functions above read: its
+ * starts and ends become 8 bytes wide and nothing else that it says changes. type_name_narrow gives the old file back.
+ *
+ * Returns 0 if the file is converted, else the refusal's number. `answer` gets as many of four numbers as it has room for:
+ *     converted   0, bytes of `output` that were written, 0, 0
+ *     refused     number, TYPE_NAME_NO_TOKEN, detail (of 4 the record's byte offset in `file`, else 0), 0
+ *
+ * `output` (output_len bytes) gets the converted file; bytes behind it stay. No refusal touches `output`.
+ *
+ * Tested in this order: the length (1: over TYPE_NAME_OLD_MOST_BYTES), the head (2, 3), record by record its number and its
+ * form (5, 4), `output` (6: too short). A file in the new format is 2. The row is not looked at: a file whose row is refused
+ * is converted like others.
+ *
+ * The new file is longer than the old one by TYPE_NAME_TOKEN_LENGTH - TYPE_NAME_OLD_TOKEN_LENGTH bytes, 8, for each token.
+ * A file has at most TYPE_NAME_MOST_TOKENS of them, so TYPE_NAME_MOST_WIDENED bytes, which are
+ * TYPE_NAME_OLD_MOST_BYTES + 8 * TYPE_NAME_MOST_TOKENS, always do.
+ *
+ * Proved and left to the caller as with type_name_read. So `file` and `output` do not overlap: a file is not converted in
+ * place. */
+uint32_t type_name_widen(const uint8_t *file, size_t file_len,
+                         uint8_t *output, size_t output_len,
+                         uint32_t *answer, size_t answer_len);
+
+/* The inverse: brings a file over to the old format. type_name_widen gives the file back. All is as with type_name_widen but
+ * what is tested, in this order: the length (1: over TYPE_NAME_MOST_BYTES), the head (2, 3), record by record its number and
+ * its form (5, 4), whether a span ends at 2^32 or later (7), whether the old file would have more than
+ * TYPE_NAME_OLD_MOST_BYTES bytes (1), `output` (6: too short). A file in the old format is 2.
+ *
+ * The old file is never longer than the new one, so as many bytes of `output` as `file` has always do, and so do
+ * TYPE_NAME_OLD_MOST_BYTES. */
+uint32_t type_name_narrow(const uint8_t *file, size_t file_len,
+                          uint8_t *output, size_t output_len,
+                          uint32_t *answer, size_t answer_len);
+
 /* ---- helpers, which are not proved */
 
 /* The functions above, for callers whose pointers may be NULL where the length is 0. */
@@ -380,8 +423,30 @@ static inline uint32_t type_name_overlap_or_null(const uint8_t *rules, size_t ru
                              answer_len == 0 ? &no_answer : answer, answer_len);
 }
 
+static inline uint32_t type_name_widen_or_null(const uint8_t *file, size_t file_len,
+                                               uint8_t *output, size_t output_len,
+                                               uint32_t *answer, size_t answer_len)
+{
+    uint8_t no_byte = 0, no_output = 0;
+    uint32_t no_answer = 0;
+    return type_name_widen(file_len == 0 ? &no_byte : file, file_len,
+                           output_len == 0 ? &no_output : output, output_len,
+                           answer_len == 0 ? &no_answer : answer, answer_len);
+}
+
+static inline uint32_t type_name_narrow_or_null(const uint8_t *file, size_t file_len,
+                                                uint8_t *output, size_t output_len,
+                                                uint32_t *answer, size_t answer_len)
+{
+    uint8_t no_byte = 0, no_output = 0;
+    uint32_t no_answer = 0;
+    return type_name_narrow(file_len == 0 ? &no_byte : file, file_len,
+                            output_len == 0 ? &no_output : output, output_len,
+                            answer_len == 0 ? &no_answer : answer, answer_len);
+}
+
 /* Writes the lowest `bytes` bytes of a number, the least first. */
-static inline void type_name_put_number(uint8_t *to, uint32_t number, size_t bytes)
+static inline void type_name_put_number(uint8_t *to, uint64_t number, size_t bytes)
 {
     size_t i;
     for (i = 0; i < bytes; i++)
@@ -422,7 +487,7 @@ static inline int type_name_is_word(const char *word, size_t word_len)
  * Returns the file's length then, or 0 if there is no room, no record can hold the word, the span ends before it starts, or
  * `length` is 0: so the last of several calls tells whether all went well. */
 static inline size_t type_name_put_token(uint8_t *file, size_t room, size_t length, enum type_name_token_kind kind,
-                                         const char *word, size_t word_len, uint32_t start, uint32_t end)
+                                         const char *word, size_t word_len, uint64_t start, uint64_t end)
 {
     size_t record = TYPE_NAME_TOKEN_LENGTH, i;
     if (kind == TYPE_NAME_KIND_IDENTIFIER) {
@@ -433,10 +498,10 @@ static inline size_t type_name_put_token(uint8_t *file, size_t room, size_t leng
     if (length == 0 || length > room || room - length < record || start > end)
         return 0;
     file += length;
-    type_name_put_number(file, (uint32_t)record, 2);
-    type_name_put_number(file + 2, (uint32_t)kind, 2);
-    type_name_put_number(file + 4, start, 4);
-    type_name_put_number(file + 8, end, 4);
+    type_name_put_number(file, record, 2);
+    type_name_put_number(file + 2, (uint64_t)kind, 2);
+    type_name_put_number(file + 4, start, 8);
+    type_name_put_number(file + 12, end, 8);
     for (i = TYPE_NAME_TOKEN_LENGTH; i < record; i++)
         file[i] = (uint8_t)word[i - TYPE_NAME_TOKEN_LENGTH];
     return length + record;
@@ -575,7 +640,7 @@ static inline int type_name_put_rule(uint8_t *table, size_t room, size_t *length
     if (*length > room || room - *length < record)
         return 0;
     table += *length;
-    type_name_put_number(table, (uint32_t)record, 2);
+    type_name_put_number(table, record, 2);
     type_name_put_number(table + 2, TYPE_NAME_RULE_KIND, 2);
     table += TYPE_NAME_RULE_HEAD_LENGTH;
     for (i = 0; i < count; i++) {

@@ -27,16 +27,16 @@ static const struct source_token tokens[] = {
     {TYPE_NAME_KIND_GREATER, ">"},
 };
 
-enum { TOKENS = sizeof tokens / sizeof tokens[0], ROOM = 300 };
+enum { TOKENS = sizeof tokens / sizeof tokens[0], ROOM = 500 };
 
 static size_t build(uint8_t *file, size_t room)
 {
     size_t length = type_name_put_head(file, room, TYPE_NAME_LANGUAGE_CPP, TYPE_NAME_CPP17,
                                        TYPE_NAME_STRUCTURE_CHECK_OFF, 1000);
-    uint32_t at = 0;
+    uint64_t at = 0;
     size_t i;
     for (i = 0; i < TOKENS; i++) {
-        uint32_t size = (uint32_t)strlen(tokens[i].text);
+        size_t size = strlen(tokens[i].text);
         length = type_name_put_token(file, room, length, tokens[i].kind, tokens[i].text, size, at, at + size);
         at += size;
     }
@@ -63,7 +63,7 @@ static void rows(const char *path)
     }
 }
 
-static size_t put(const char *word, size_t word_len, uint32_t start, uint32_t end)
+static size_t put(const char *word, size_t word_len, uint64_t start, uint64_t end)
 {
     uint8_t file[ROOM];
     size_t length = type_name_put_head(file, sizeof file, TYPE_NAME_LANGUAGE_C, TYPE_NAME_C99,
@@ -73,14 +73,16 @@ static size_t put(const char *word, size_t word_len, uint32_t start, uint32_t en
 
 static void records(void)
 {
+    const uint64_t over = (uint64_t)1 << 32;
     char word[TYPE_NAME_LONGEST_WORD + 1];
     uint8_t file[ROOM];
     memset(word, 'w', sizeof word);
     CHECK(put(word, 1, 0, 0) == TYPE_NAME_HEAD_LENGTH + TYPE_NAME_TOKEN_LENGTH + 1);
-    CHECK(put(word, TYPE_NAME_LONGEST_WORD, 0, UINT32_MAX) != 0);
+    CHECK(put(word, TYPE_NAME_LONGEST_WORD, 0, UINT64_MAX) != 0);
     CHECK(put(word, TYPE_NAME_LONGEST_WORD + 1, 0, 1) == 0);
     CHECK(put(word, 0, 0, 1) == 0);
     CHECK(put(word, 1, 2, 1) == 0);
+    CHECK(put(word, 1, over, over - 1) == 0 && put(word, 1, over - 1, over) != 0);
     CHECK(put("a b", 3, 0, 3) == 0);
     CHECK(put("a\177", 2, 0, 2) == 0);
     CHECK(put("a\200", 2, 0, 2) == 0);
@@ -254,6 +256,59 @@ static void lists(void)
     CHECK(type_name_find_part(file, sizeof file, 1) == TYPE_NAME_NO_TOKEN);
 }
 
+/* `int` in C89 with the structure check and an allowance of 1,000, byte for byte: as it was, and as it is. */
+static const uint8_t old_int[] = {
+    11, 0, 0, 1, 0, 0, 1, 0xe8, 3, 0, 0,
+    15, 0, 0, 0, 0, 0, 0, 0, 3, 0, 0, 0, 'i', 'n', 't',
+};
+static const uint8_t new_int[] = {
+    11, 0, 5, 1, 0, 0, 1, 0xe8, 3, 0, 0,
+    23, 0, 0, 0, 0, 0, 0, 0, 0, 0, 0, 0, 3, 0, 0, 0, 0, 0, 0, 0, 'i', 'n', 't',
+};
+
+typedef uint32_t conversion(const uint8_t *, size_t, uint8_t *, size_t, uint32_t *, size_t);
+
+/* With any room; bytes behind the output stay, and no refusal touches it. */
+static void converts(conversion *convert, const uint8_t *from, size_t from_len, const uint8_t *to, size_t to_len)
+{
+    uint8_t output[ROOM];
+    uint32_t answer[TYPE_NAME_ANSWER_LENGTH];
+    size_t room, written, i;
+    for (room = 0; room <= to_len + 2; room++) {
+        memset(output, 0xa5, sizeof output);
+        written = room < to_len ? 0 : to_len;
+        CHECK(convert(from, from_len, output, room, answer, 4) == (written == 0 ? TYPE_NAME_ERROR_SHORT_BUFFER : 0));
+        CHECK(answer[1] == (written == 0 ? TYPE_NAME_NO_TOKEN : to_len) && answer[2] == 0 && answer[3] == 0);
+        CHECK(memcmp(output, to, written) == 0);
+        for (i = written; i < sizeof output; i++)
+            CHECK(output[i] == 0xa5);
+    }
+}
+
+static void conversions(void)
+{
+    uint8_t file[ROOM], output[ROOM];
+    uint32_t answer[TYPE_NAME_ANSWER_LENGTH] = {9, 9, 9, 9};
+    size_t length = type_name_put_head(file, sizeof file, TYPE_NAME_LANGUAGE_C, TYPE_NAME_C89,
+                                       TYPE_NAME_STRUCTURE_CHECK_ON, 1000);
+    length = type_name_put_token(file, sizeof file, length, TYPE_NAME_KIND_IDENTIFIER, "int", 3, 0, 3);
+    CHECK(length == sizeof new_int && memcmp(file, new_int, length) == 0);
+    CHECK(sizeof old_int == 26 && sizeof new_int == 34);
+    converts(type_name_widen, old_int, sizeof old_int, new_int, sizeof new_int);
+    converts(type_name_narrow, new_int, sizeof new_int, old_int, sizeof old_int);
+    CHECK(type_name_widen(new_int, sizeof new_int, output, ROOM, answer, 4) == TYPE_NAME_ERROR_INVALID_HEAD);
+    CHECK(type_name_narrow(old_int, sizeof old_int, output, ROOM, answer, 4) == TYPE_NAME_ERROR_INVALID_HEAD);
+    CHECK(type_name_read_or_null(old_int, sizeof old_int, NULL, 0, NULL, 0) == TYPE_NAME_ERROR_INVALID_HEAD);
+    /* An end at 2^32, of which a malformed record behind it is told before. */
+    length = type_name_put_token(file, sizeof file, length, TYPE_NAME_KIND_STAR, NULL, 0, 3, (uint64_t)1 << 32);
+    CHECK(type_name_narrow(file, length, output, 0, answer, 4) == TYPE_NAME_ERROR_OFFSET_OVER_32_BITS);
+    CHECK(answer[0] == 7 && answer[1] == TYPE_NAME_NO_TOKEN && answer[2] == 0 && answer[3] == 0);
+    file[length] = 0;
+    CHECK(type_name_narrow(file, length + 1, output, 0, answer, 4) == TYPE_NAME_ERROR_INVALID_RECORD);
+    CHECK(answer[0] == 4 && answer[1] == TYPE_NAME_NO_TOKEN && answer[2] == length && answer[3] == 0);
+    CHECK(TYPE_NAME_MOST_WIDENED == TYPE_NAME_OLD_MOST_BYTES + 8 * TYPE_NAME_MOST_TOKENS);
+}
+
 static void no_pointers(void)
 {
     uint32_t answer[TYPE_NAME_ANSWER_LENGTH] = {9, 9, 9, 9};
@@ -262,6 +317,9 @@ static void no_pointers(void)
     CHECK(type_name_overlap_or_null(NULL, 0, 0, 0, NULL, 0, answer, 2) == 0);
     CHECK(answer[0] == 0 && answer[1] == 0 && answer[2] == 9 && answer[3] == 9);
     CHECK(type_name_read_list_or_null(NULL, 0, NULL, 0, NULL, 0) == TYPE_NAME_ERROR_INVALID_HEAD);
+    CHECK(type_name_widen_or_null(NULL, 0, NULL, 0, NULL, 0) == TYPE_NAME_ERROR_INVALID_HEAD);
+    CHECK(type_name_narrow_or_null(NULL, 0, NULL, 0, NULL, 0) == TYPE_NAME_ERROR_INVALID_HEAD);
+    CHECK(type_name_widen_or_null(old_int, sizeof old_int, NULL, 0, NULL, 0) == TYPE_NAME_ERROR_SHORT_BUFFER);
     CHECK(type_name_read_or_null(NULL, 0, NULL, 0, NULL, 0) == TYPE_NAME_ERROR_INVALID_HEAD);
     CHECK(type_name_read_or_null(NULL, 0, NULL, 0, answer, 4) == TYPE_NAME_ERROR_INVALID_HEAD);
     CHECK(answer[0] == TYPE_NAME_ERROR_INVALID_HEAD && answer[1] == TYPE_NAME_NO_TOKEN);
@@ -279,6 +337,7 @@ int main(int count, char **arguments)
     items();
     no_overlap();
     lists();
+    conversions();
     no_pointers();
     snprintf(version, sizeof version, "%d.%d.%d", TYPE_NAME_VERSION_MAJOR, TYPE_NAME_VERSION_MINOR,
              TYPE_NAME_VERSION_PATCH);

@@ -36,6 +36,7 @@ impl Refusal {
     pub const INVALID_RECORD: u32 = 4;
     pub const TOO_MANY_RECORDS: u32 = 5;
     pub const SHORT_BUFFER: u32 = 6;
+    pub const OFFSET_OVER_32_BITS: u32 = 7;
     pub const EMPTY: u32 = 10;
     pub const UNEXPECTED_CLOSING_DELIMITER: u32 = 11;
     pub const UNEXPECTED_ANGLE: u32 = 12;

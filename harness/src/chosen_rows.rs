@@ -6,8 +6,8 @@
 use HostLanguage::{C, Cpp, Fortran};
 
 use crate::format::{
-    FLAG_AT, HEAD_LENGTH, Head, LANGUAGE_AT, NUMBERS_PER_TOKEN, Row, STANDARD_AT, TOKEN_LENGTH,
-    Token, WORD_BYTES, WORD_LENGTHS,
+    FLAG_AT, Format, HEAD_LENGTH, Head, LANGUAGE_AT, NUMBERS_PER_TOKEN, Row, STANDARD_AT,
+    TOKEN_LENGTH, Token, WORD_BYTES, WORD_LENGTHS,
 };
 use crate::generate::words::{BUILTIN, KNOWN_WORDS};
 use crate::generate::{Case, DEFAULT_ALLOWANCE};
@@ -47,7 +47,7 @@ const C_FAMILY: &[&str] = &[
     "::INT", "const::*", "Lane::(*)", "typeof(a)::b", "a::b", "a::b::c", "a b", "struct a b", "unsigned int _BitInt(8)",
     "_BitInt(8)unsigned", "signed _BitInt(8)unsigned", "unsigned _BitInt(8)", "_BitInt(8)int",
     "unsigned unsigned _BitInt(8)", "_BitInt(8)signed", "typename a", "a struct b", "struct struct a",
-    "struct int", "struct const", "A<b>:: ::c",
+    "struct int", "struct const", "int struct const", "Lane signed", "unsigned typeof(a)", "A::*", "A<b>:: ::c",
     "int int long", "_Atomic()", "decltype()", "typeof()", "typeof(int*)", "typeof(a+1)",
     // Expressions.
     "int[a::b]", "int[::a]", "int[a.(b)]", "int[a.!b]", "int[a.++b]", "int[a.-b]", "int[a!b]", "int[a++]",
@@ -108,7 +108,15 @@ pub fn cases() -> Vec<Case> {
         fortran_as_cpp(),
         profiles(),
     ];
-    let others = [builtin_words(), kinds(), words(), files(), allowances()];
+    let others = [
+        builtin_words(),
+        kinds(),
+        words(),
+        spans(),
+        files(),
+        old_files(),
+        allowances(),
+    ];
     texts.into_iter().chain(others).flatten().collect()
 }
 
@@ -284,6 +292,48 @@ fn words() -> Vec<Case> {
         .collect()
 }
 
+/// Spans about where each half of an offset, and a sign, would end.
+fn spans() -> Vec<Case> {
+    let half = 1 << 32;
+    let sign = 1 << 63;
+    let spans = [
+        (0, 1),
+        (1, 0),
+        (1, half),
+        (half, 1),
+        (half - 1, half),
+        (half, half - 1),
+        (half, half + 1),
+        (half + 1, half),
+        (half + 1, 2 * half),
+        (2 * half, half + 1),
+        (sign - 1, sign),
+        (sign, sign - 1),
+        (0, u64::MAX),
+        (u64::MAX, 0),
+        (u64::MAX, u64::MAX),
+        (u64::MAX, u64::MAX - 1),
+    ];
+    let with = |(start, end)| {
+        let word = Token::word("int");
+        case(head(C, 1), vec![Token { start, end, ..word }])
+    };
+    spans.into_iter().map(with).collect()
+}
+
+/// What the old format makes of a row, whole and behind the current head.
+fn old_files() -> Vec<Case> {
+    let tokens = vec![Token::word("int"), Token::plain(Kind::Star)];
+    let row = Row {
+        head: head(C, 1),
+        tokens,
+    };
+    let tree_len = NUMBERS_PER_TOKEN * row.tokens.len();
+    let [old, current] = [Format::old(), Format::current()].map(|format| format.write(&row));
+    let mixed = [&current[..HEAD_LENGTH], &old[HEAD_LENGTH..]].concat();
+    [old, mixed].map(|file| Case { file, tree_len }).to_vec()
+}
+
 /// Files and buffers at the edge of being well-formed, one fault each.
 #[rustfmt::skip]
 fn files() -> Vec<Case> {
@@ -297,13 +347,15 @@ fn files() -> Vec<Case> {
     let cut = |length: usize| Case { file: whole.file[..length].to_vec(), ..whole.clone() };
     let room = |tree_len: usize| Case { tree_len, ..whole.clone() };
     let mut cases = vec![cut(0), cut(HEAD_LENGTH - 1), cut(HEAD_LENGTH), cut(whole.file.len() - 1)];
-    // The head's length, kind, language, standard, flag; a record's length, kind, span.
+    // The head's length, kind, language, standard, flag; a record's length and kind.
     let faults = [
-        (0, 10), (0, 12), (1, 1), (2, 1), (3, 0), (3, 2), (LANGUAGE_AT, 3), (STANDARD_AT, 4), (STANDARD_AT, 5),
-        (STANDARD_AT, 254), (FLAG_AT, 2), (last, 11), (last, 13), (last + 1, 1), (last + 2, 57), (last + 2, 58),
-        (last + 3, 1), (last + 4, 1), (last + 8, 1),
+        (0, 10), (0, 12), (1, 1), (2, 0), (2, 4), (2, 6), (3, 0), (3, 2), (LANGUAGE_AT, 3), (STANDARD_AT, 4), (STANDARD_AT, 5),
+        (STANDARD_AT, 254), (FLAG_AT, 2), (last, 12), (last, 19), (last, 21), (last + 1, 1), (last + 2, 57), (last + 2, 58),
+        (last + 3, 1),
     ];
     cases.extend(faults.map(|(at, byte)| with(at, byte)));
+    // Each byte of a span.
+    cases.extend((last + 4..last + TOKEN_LENGTH).map(|at| with(at, 1)));
     cases.extend([0, 11, 12, 13].map(room));
     cases.push(Case { tree_len: 0, ..cut(whole.file.len() - 1) });
     cases.push(Case { tree_len: 0, ..cut(HEAD_LENGTH) });

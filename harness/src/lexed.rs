@@ -26,11 +26,7 @@ fn token(lexed: &lexer::Token) -> Result<Token, String> {
     Ok(Token {
         kind: Kind::of(&lexed.kind),
         word: word.to_owned(),
-        start: place(lexed.span.start_byte())?,
-        end: place(lexed.span.end_byte())?,
+        start: lexed.span.start_byte() as u64,
+        end: lexed.span.end_byte() as u64,
     })
-}
-
-fn place(byte: usize) -> Result<u32, String> {
-    u32::try_from(byte).map_err(|_| "the text is too long".to_owned())
 }

@@ -10,10 +10,12 @@
 //! rule, `replay` writes the list of answers that a
 //! program replays, `token_list` is the original for measuring, `rules` and
 //! `lists` are models of rule tables and of several types in one row (document
-//! 02, C-11 and C-12) on top of `oracle`.
+//! 02, C-11 and C-12) on top of `oracle`, `conversions` is one of the
+//! conversions between formats (C-14).
 
 pub mod answer;
 pub mod chosen_rows;
+pub mod conversions;
 pub mod copies;
 pub mod format;
 pub mod generate;

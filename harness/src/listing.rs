@@ -2,9 +2,23 @@
 
 use std::fmt::Write;
 
-use crate::answer::Answer;
+use crate::answer::{Answer, Refusal};
 use crate::format::NODE_WIDTH;
+use crate::oracle;
 use crate::tree::{Node, NodeKind};
+
+/// The most bytes of a file that the program lists: its own limit, below the
+/// format's.
+pub const LISTING_LIMIT: usize = 65_536;
+
+/// What it prints of a file.
+pub fn listing_of(file: &[u8]) -> String {
+    if file.len() > LISTING_LIMIT {
+        return listing(Refusal::plain(Refusal::FILE_TOO_LONG).after(0), &[]);
+    }
+    let (answer, tree) = oracle::answer_with_tree(file);
+    listing(answer, &tree)
+}
 
 /// The answer's line, and if accepted a line for each node: level, letter,
 /// token, extent.

@@ -5,7 +5,7 @@ use std::process::ExitCode;
 
 use harness::format::{Head, NODE_WIDTH, Row};
 use harness::generate::{self, Case};
-use harness::listing::listing;
+use harness::listing::listing_of;
 use harness::oracle;
 use harness::profile::{self, HostLanguage, MEANT_STANDARD};
 use harness::{answer::Answer, lexed, replay, worked_rows};
@@ -63,8 +63,7 @@ fn print_listing(arguments: &[String]) -> Done {
     let mut file = Vec::new();
     let read = io::stdin().read_to_end(&mut file);
     read.map_err(|error| format!("standard input: {error}"))?;
-    let (answer, tree) = oracle::answer_with_tree(&file);
-    write(listing(answer, &tree).as_bytes())
+    write(listing_of(&file).as_bytes())
 }
 
 fn write_row(arguments: &[String]) -> Done {

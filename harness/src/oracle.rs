@@ -2,12 +2,17 @@
 
 use crate::answer::{Answer, Refusal};
 use crate::copies;
-use crate::format::{NODE_WIDTH, NUMBERS_PER_TOKEN, Row};
+use crate::format::{Format, NODE_WIDTH, NUMBERS_PER_TOKEN, Row};
 use crate::tree::Node;
 
 /// Answers a file and leaves in the buffer what document 01 says.
 pub fn answer(file: &[u8], tree: &mut [u32]) -> Answer {
-    let row = match Row::read(file) {
+    answer_in(Format::current(), file, tree)
+}
+
+/// The same if files of this format were read.
+pub fn answer_in(format: Format, file: &[u8], tree: &mut [u32]) -> Answer {
+    let row = match format.read(file) {
         Ok(row) => row,
         Err(refusal) => return refusal.after(0),
     };

@@ -7,7 +7,7 @@ use crate::answer::{Answer, Refusal};
 use crate::chosen_rows;
 use crate::format::{
     FLAG_AT, GREATEST_FLAG, HEAD_LENGTH, Head, MOST_BYTES, MOST_TOKENS, NUMBERS_PER_TOKEN, Row,
-    Token,
+    TOKEN_LENGTH, Token,
 };
 use crate::generate::random::Random;
 use crate::generate::{self, Case, DEFAULT_ALLOWANCE};
@@ -22,10 +22,10 @@ const SEED: u64 = 20_261_120;
 const DRAWN: usize = 400_000;
 
 /// The longest file of a drawn case that is chosen: short ones say as much.
-const LONGEST: usize = 240;
+const LONGEST: usize = 400;
 
 /// The same for refusal 20, which takes 65 brackets.
-const LONGEST_NESTED: usize = 1_700;
+const LONGEST_NESTED: usize = 2_800;
 
 /// Of each so many chosen cases one is also taken with other allowances and
 /// buffers.
@@ -90,7 +90,7 @@ fn outermost() -> Vec<Case> {
 
 /// The length of a word, so that as many words as a row can have fill a file.
 fn longest_word(number: usize) -> usize {
-    let bytes = MOST_BYTES - HEAD_LENGTH - MOST_TOKENS * Token::plain(Kind::Identifier).length();
+    let bytes = MOST_BYTES - HEAD_LENGTH - MOST_TOKENS * TOKEN_LENGTH;
     bytes / MOST_TOKENS + usize::from(number < bytes % MOST_TOKENS)
 }
 

@@ -1,7 +1,8 @@
-//! Files, records and their refusals, as document 01 has them.
+//! Files, records and their refusals, as document 01 has them with document
+//! 02's C-14.
 
 use harness::answer::{NO_TOKEN, Refusal};
-use harness::format::{FLAG_AT, Head, MOST_BYTES, MOST_TOKENS, Row, STANDARD_AT, Token};
+use harness::format::{FLAG_AT, Format, Head, MOST_TOKENS, Row, STANDARD_AT, Token};
 use harness::kind::Kind;
 
 const C89: Head = Head {
@@ -16,7 +17,7 @@ const WORD: u8 = Kind::Identifier as u8;
 const UNKNOWN: u8 = Kind::End as u8 + 1;
 
 fn head_bytes() -> Vec<u8> {
-    vec![11, 0, 0, 1, 0, 0, 1, 1, 2, 3, 4]
+    vec![11, 0, 5, 1, 0, 0, 1, 1, 2, 3, 4]
 }
 
 fn file(tokens: &[Token]) -> Vec<u8> {
@@ -41,13 +42,40 @@ fn changed(place: usize, byte: u8) -> Vec<u8> {
 fn records_are_laid_out_as_written() {
     assert_eq!(file(&[]), head_bytes());
     let mut word = Token::word("int");
-    (word.start, word.end) = (0x0102, 0x0403_0201);
+    (word.start, word.end) = (0x0102, 0x0807_0605_0403_0201);
     let mut bytes = head_bytes();
-    bytes.extend([15, 0, WORD, 0, 2, 1, 0, 0, 1, 2, 3, 4, b'i', b'n', b't']);
-    bytes.extend([12, 0, 57, 0, 0, 0, 0, 0, 0, 0, 0, 0]);
+    bytes.extend([23, 0, WORD, 0]);
+    bytes.extend([2, 1, 0, 0, 0, 0, 0, 0]);
+    bytes.extend([1, 2, 3, 4, 5, 6, 7, 8]);
+    bytes.extend(b"int");
+    bytes.extend([20, 0, 57, 0]);
+    bytes.extend([0; 16]);
     let tokens = vec![word, Token::plain(Kind::End)];
     assert_eq!(file(&tokens), bytes);
     assert_eq!(Row::read(&bytes), Ok(Row { head: C89, tokens }));
+}
+
+#[test]
+fn old_records_are_laid_out_as_written() {
+    let mut word = Token::word("int");
+    (word.start, word.end) = (0x0102, 0x0403_0201);
+    let mut bytes = vec![11, 0, 0, 1, 0, 0, 1, 1, 2, 3, 4];
+    bytes.extend([15, 0, WORD, 0, 2, 1, 0, 0, 1, 2, 3, 4, b'i', b'n', b't']);
+    bytes.extend([12, 0, 57, 0, 0, 0, 0, 0, 0, 0, 0, 0]);
+    let tokens = vec![word, Token::plain(Kind::End)];
+    let row = Row { head: C89, tokens };
+    let old = Format::old();
+    assert_eq!(old.write(&row), bytes);
+    assert_eq!(old.read(&bytes), Ok(row.clone()));
+    // Neither format's files are the other's.
+    assert_eq!(refusal(&bytes), (Refusal::INVALID_HEAD, 0));
+    let current = row.write();
+    assert_eq!(
+        old.read(&current).unwrap_err().number,
+        Refusal::INVALID_HEAD
+    );
+    let mixed = [&current[..11], &bytes[11..]].concat();
+    assert_eq!(refusal(&mixed), (Refusal::INVALID_RECORD, 11));
 }
 
 #[test]
@@ -55,7 +83,16 @@ fn heads_are_refused() {
     for length in 0..head_bytes().len() {
         assert_eq!(refusal(&head_bytes()[..length]), (Refusal::INVALID_HEAD, 0));
     }
-    for (place, byte) in [(0, 10), (0, 12), (1, 1), (2, 1), (3, 0), (6, 2), (6, 255)] {
+    for (place, byte) in [
+        (0, 10),
+        (0, 12),
+        (1, 1),
+        (2, 0),
+        (2, 4),
+        (3, 0),
+        (6, 2),
+        (6, 255),
+    ] {
         assert_eq!(refusal(&changed(place, byte)), (Refusal::INVALID_HEAD, 0));
     }
     let mut flag_and_language = changed(4, 3);
@@ -81,10 +118,11 @@ fn each_language_knows_its_standards() {
 
 #[test]
 fn long_files_are_refused_before_their_heads() {
-    let mut file = vec![0; MOST_BYTES];
-    assert_eq!(refusal(&file), (Refusal::FILE_TOO_LONG + 1, 0));
-    file.push(0);
-    assert_eq!(refusal(&file), (Refusal::FILE_TOO_LONG, 0));
+    for (format, most) in [(Format::current(), 131_072), (Format::old(), 65_536)] {
+        let refusal = |length: usize| format.read(&vec![0; length]).unwrap_err();
+        assert_eq!(refusal(most), Refusal::plain(Refusal::INVALID_HEAD));
+        assert_eq!(refusal(most + 1), Refusal::plain(Refusal::FILE_TOO_LONG));
+    }
 }
 
 #[test]
@@ -102,18 +140,23 @@ fn a_row_has_so_many_records_at_most() {
 fn malformed_records_are_refused_at_their_first_byte() {
     let good = file(&[Token::word("a")]);
     let place = good.len();
-    let record = |length: u8, kind: u8, start: u8, end: u8| {
-        vec![length, 0, kind, 0, start, 0, 0, 0, end, 0, 0, 0]
+    let record = |length: u8, kind: u8, start: u64, end: u64| {
+        let fields = [vec![length, 0, kind, 0], start.to_le_bytes().to_vec()];
+        [fields.concat(), end.to_le_bytes().to_vec()].concat()
     };
     let mut records = vec![
-        record(11, STAR, 0, 0),
-        record(13, STAR, 0, 0),
-        record(12, UNKNOWN, 0, 0),
-        record(12, STAR, 1, 0),
-        record(12, WORD, 0, 0),
-        record(13, WORD, 0, 0),
+        record(12, STAR, 0, 0),
+        record(19, STAR, 0, 0),
+        record(21, STAR, 0, 0),
+        record(20, UNKNOWN, 0, 0),
+        record(20, STAR, 1, 0),
+        record(20, STAR, 1 << 32, u32::MAX.into()),
+        record(20, STAR, 1 << 63, (1 << 63) - 1),
+        record(20, STAR, u64::MAX, u64::MAX - 1),
+        record(20, WORD, 0, 0),
+        record(21, WORD, 0, 0),
     ];
-    records.extend((1..12).map(|length| record(12, STAR, 0, 0)[..length].to_vec()));
+    records.extend((1..20).map(|length| record(20, STAR, 0, 0)[..length].to_vec()));
     for record in records {
         let file = [good.clone(), record].concat();
         assert_eq!(
@@ -122,8 +165,16 @@ fn malformed_records_are_refused_at_their_first_byte() {
             "{file:?}"
         );
     }
-    let whole = [good, record(12, STAR, 1, 1)].concat();
-    assert!(Row::read(&whole).is_ok());
+    let spans = [
+        (1, 1),
+        (1, 1 << 32),
+        ((1 << 63) - 1, 1 << 63),
+        (0, u64::MAX),
+    ];
+    for (start, end) in spans {
+        let whole = [good.clone(), record(20, STAR, start, end)].concat();
+        assert!(Row::read(&whole).is_ok());
+    }
 }
 
 #[test]

@@ -2,7 +2,9 @@
 
 use std::collections::BTreeSet;
 
-use harness::format::{ALLOWANCE_AT, HEAD_LENGTH, Head, NUMBERS_PER_TOKEN, Row, TOKEN_LENGTH};
+use harness::format::{
+    ALLOWANCE_AT, Format, HEAD_LENGTH, Head, MOST_BYTES, NUMBERS_PER_TOKEN, Row, TOKEN_LENGTH,
+};
 use harness::generate::DEFAULT_ALLOWANCE;
 use harness::lexed;
 use harness::profile::{self, HostLanguage, MEANT_STANDARD};
@@ -158,6 +160,61 @@ fn words_are_replayed_at_their_limits() {
     ] {
         assert_eq!(answers_of(&cases, &[byte]), *wanted);
         assert_eq!(answers_of(&cases, &[b'a', byte]), *wanted);
+    }
+}
+
+#[test]
+fn files_are_replayed_at_their_limit_and_in_the_old_format() {
+    let cases = stored(&std::fs::read(PATH).unwrap());
+    let answers = |length: usize| -> BTreeSet<u32> {
+        let found = cases.iter().filter(|case| case.file.len() == length);
+        found.map(|case| case.answer[0]).collect()
+    };
+    assert_eq!(answers(MOST_BYTES), BTreeSet::from([0]));
+    assert_eq!(answers(MOST_BYTES + 1), BTreeSet::from([1]));
+    let old = |case: &&Stored| Format::old().read(&case.file).is_ok();
+    let mut old = cases.iter().filter(old).peekable();
+    assert!(old.peek().is_some());
+    assert!(old.all(|case| case.answer[0] == 2));
+    // An old file with the current head's kind.
+    let mixed = |case: &&Stored| {
+        let mut file = case.file.clone();
+        if let Some(kind) = file.get_mut(2..4) {
+            kind.copy_from_slice(&Format::old().head_kind.to_le_bytes());
+        }
+        file != case.file
+            && Format::old()
+                .read(&file)
+                .is_ok_and(|row| !row.tokens.is_empty())
+    };
+    let mut mixed = cases.iter().filter(mixed).peekable();
+    assert!(mixed.peek().is_some());
+    assert!(mixed.all(|case| case.answer[0] != 0));
+}
+
+/// The answers' numbers of the stored files that hold one token at this span.
+fn answers_at(cases: &[Stored], start: u64, end: u64) -> BTreeSet<u32> {
+    let span = [start.to_le_bytes(), end.to_le_bytes()].concat();
+    let word = HEAD_LENGTH + TOKEN_LENGTH + "int".len();
+    let found = cases.iter().filter(|case| {
+        case.file.len() == word && case.file[HEAD_LENGTH + 4..][..span.len()] == span
+    });
+    found.map(|case| case.answer[0]).collect()
+}
+
+#[test]
+fn spans_are_replayed_at_the_ends_of_their_halves() {
+    let cases = stored(&std::fs::read(PATH).unwrap());
+    let spans = [
+        (1, 1 << 32),
+        ((1 << 32) - 1, 1 << 32),
+        ((1 << 63) - 1, 1 << 63),
+        (0, u64::MAX),
+    ];
+    for (less, more) in spans {
+        let answers = answers_at(&cases, less, more);
+        assert!(answers.contains(&0) && !answers.contains(&4));
+        assert_eq!(answers_at(&cases, more, less), BTreeSet::from([4]));
     }
 }
 

@@ -1,8 +1,8 @@
 //! The rows that document 01 works out.
 
 use harness::answer::{Answer, Refusal};
-use harness::format::{Head, Row};
-use harness::listing::listing;
+use harness::format::{Head, Row, Token};
+use harness::listing::{listing, listing_of};
 use harness::oracle;
 use harness::profile::{HostLanguage, language_number, profile};
 use harness::worked_rows::{Expected, WORKED_ROWS, check};
@@ -38,6 +38,31 @@ fn the_listing_of_the_example() {
     ];
     assert_eq!(listed("Lane<(Key<8>>2)>", 0), lines.join("\n"));
     assert_eq!(listed("Lane<(Key<8>>2)>", 1), "no 30 65535 0 14\n");
+}
+
+#[test]
+fn the_listing_program_has_a_limit_of_its_own() {
+    // Of so many words of 255 letters, 275 bytes each, and another.
+    let listed = |words: usize, last: usize| {
+        let head = Head {
+            language: 0,
+            standard: 0,
+            flag: 0,
+            allowance: 1_000,
+        };
+        let mut tokens = vec![Token::word(&"w".repeat(255)); words];
+        tokens.push(Token::word(&"w".repeat(last)));
+        let file = Row { head, tokens }.write();
+        let (answer, tree) = oracle::answer_with_tree(&file);
+        assert_eq!(answer.refusal(), None);
+        let listed = listing_of(&file);
+        let whole = listed == listing(answer, &tree);
+        assert!(whole || listed == "no 1 65535 0 0\n");
+        (file.len(), whole)
+    };
+    assert_eq!(listed(238, 55), (65_536, true));
+    assert_eq!(listed(238, 56), (65_537, false));
+    assert_eq!(listed(254, 119), (70_000, false));
 }
 
 #[test]

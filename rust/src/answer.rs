@@ -95,13 +95,15 @@ impl fmt::Display for Refusal {
 impl Error for Refusal {}
 
 numbered! {
-    /// Why a type name is refused, in the original's names; 1 to 6, 25, 50 and 51 are added, and each reason of its
+    /// Why a type name is refused, in the original's names; 1 to 7, 25, 50 and 51 are added, and each reason of its
     /// `InvalidSyntax` is a case of its own. `docs/FORMAT.md` has the table.
     #[non_exhaustive]
     TypeNameError {
-        /// The file has more than [`MOST_BYTES`] bytes.
+        /// The file has more than [`MOST_BYTES`] bytes; of conversions: more than
+        /// [`OLD_MOST_BYTES`](crate::OLD_MOST_BYTES) in the old format.
         FileTooLong = 1,
-        /// The head record is cut off, or its length, kind or structure flag is wrong.
+        /// The head record is cut off, or its length, kind or structure flag is wrong. A file of the old format is refused
+        /// so: [`widen`](crate::widen) brings it over.
         InvalidHead = 2,
         /// The head record names no language or standard.
         UnknownProfile = 3,
@@ -110,8 +112,11 @@ numbered! {
         /// There are more than [`MOST_TOKENS`] tokens.
         TooManyRecords = 5,
         /// The tree buffer has fewer than [`NUMBERS_PER_TOKEN`] numbers a token; of
-        /// [`type_name_overlap`](crate::type_name_overlap): the sequence buffer has fewer bytes than are shown.
+        /// [`type_name_overlap`](crate::type_name_overlap): the sequence buffer has fewer bytes than are shown; of
+        /// conversions: the output buffer has fewer bytes than the converted file.
         ShortBuffer = 6,
+        /// A span ends at 2<sup>32</sup> or later, which the old format cannot say. Of [`narrow`](crate::narrow) alone.
+        OffsetOver32Bits = 7,
         /// There is no token.
         Empty = 10,
         /// A `)` or `]` that closes nothing, or not what was opened last.
@@ -185,6 +190,9 @@ impl TypeNameError {
             Self::UnknownProfile => "the head record names no language or standard",
             Self::InvalidRecord => {
                 "a token record is cut off, or its length, kind, span or word is out of range"
+            }
+            Self::OffsetOver32Bits => {
+                "a span ends at 2^32 or later, which the old format cannot hold"
             }
             Self::Empty => "there is no token",
             Self::UnexpectedClosingDelimiter => {

@@ -2,7 +2,8 @@
 //!
 //! A lexer's tokens become a row file with [`Row`]; [`parse_type_name`] reads it into a buffer of the caller's and gives a
 //! [`Tree`] or a [`Refusal`]; [`parse_type_list`] reads several type names with commas between them. A [`Table`] of rules over
-//! a tree's top-level nodes says which rule wins for a type name, and which of its rules overlap.
+//! a tree's top-level nodes says which rule wins for a type name, and which of its rules overlap. [`widen`] brings over files of
+//! the old format, in which offsets have 32 bits, and [`narrow`] brings them back.
 //!
 #![doc = "```"]
 #![doc = include_str!("../examples/lane.rs")]
@@ -13,9 +14,9 @@
 //!
 //! # What is proved, and what is not
 //!
-//! Proved, for every file, table and buffer: what the C functions `type_name_read`, `type_name_read_list`, `type_name_match`
-//! and `type_name_overlap` answer and write. `README.md` says what that comprises, `include/type_name.h` what the caller of
-//! those functions sees to.
+//! Proved, for every file, table and buffer: what the C functions `type_name_read`, `type_name_read_list`, `type_name_match`,
+//! `type_name_overlap`, `type_name_widen` and `type_name_narrow` answer and write. `README.md` says what that comprises,
+//! `include/type_name.h` what the caller of those functions sees to.
 //!
 //! Not proved: this crate. It sees to what no contract covers by handing over slices, which are aligned, as long as they
 //! say, never null and, as those that are written are `&mut`, apart from each other. It gives the numbers names and lays out
@@ -28,6 +29,7 @@
 extern crate alloc;
 
 mod answer;
+mod conversion;
 mod cuts;
 mod limits;
 mod list;
@@ -46,18 +48,23 @@ use alloc::vec;
 use alloc::vec::Vec;
 
 pub use answer::{Delimiter, Feature, Refusal, TypeNameError};
+pub use conversion::{Conversion, ConversionRefusal, narrow, narrow_into, widen, widen_into};
 pub use cuts::PartPlace;
 pub use limits::{
     ALLOWANCE_AT, ANSWER_LENGTH, GREATEST_WORD_BYTE, HEAD_KIND, HEAD_LENGTH, LEAST_WORD_BYTE,
     LIST_ANSWER_LENGTH, LONGEST_SEQUENCE, LONGEST_WORD, MOST_BYTES, MOST_ITEMS, MOST_NESTING,
-    MOST_RULES, MOST_TOKENS, NO_PART, NO_TOKEN, NODE_WIDTH, NUMBERS_PER_TOKEN, Offset,
-    RULE_HEAD_LENGTH, RULE_KIND, TOKEN_LENGTH, TREE_LENGTH,
+    MOST_RULES, MOST_TOKENS, MOST_WIDENED, NO_PART, NO_TOKEN, NODE_WIDTH, NUMBERS_PER_TOKEN,
+    OLD_HEAD_KIND, OLD_MOST_BYTES, OLD_TOKEN_LENGTH, Offset, RULE_HEAD_LENGTH, RULE_KIND,
+    TOKEN_LENGTH, TREE_LENGTH,
 };
 pub use list::{ListRefusal, Part, Parts, TypeList};
 pub use numbered::UnknownNumberError;
 pub use overlaps::{Overlap, Overlaps};
 pub use profile::{CStandard, CppStandard, FortranStandard, HostLanguage, HostLanguageProfile};
-pub use raw::{type_name_match, type_name_overlap, type_name_read, type_name_read_list};
+pub use raw::{
+    type_name_match, type_name_narrow, type_name_overlap, type_name_read, type_name_read_list,
+    type_name_widen,
+};
 pub use row::{AMPLE_ALLOWANCE, Head, RecordError, Row, StructureCheck, limit_allowance};
 pub use rule::{Item, ItemKind, Items, RuleError};
 pub use table::{Rules, Table, Winner};

@@ -2,7 +2,7 @@
 //! describes them; `tools/numbers` holds them to the proved definitions.
 
 /// The most bytes of a row file, else [`FileTooLong`](crate::TypeNameError::FileTooLong).
-pub const MOST_BYTES: usize = 65_536;
+pub const MOST_BYTES: usize = 131_072;
 
 /// The bytes of the head record.
 pub const HEAD_LENGTH: usize = 11;
@@ -11,10 +11,24 @@ pub const HEAD_LENGTH: usize = 11;
 pub const ALLOWANCE_AT: usize = 7;
 
 /// The number that the head record has in place of a token kind.
-pub const HEAD_KIND: u16 = 256;
+pub const HEAD_KIND: u16 = 261;
 
 /// The bytes of a token record, without its word.
-pub const TOKEN_LENGTH: usize = 12;
+pub const TOKEN_LENGTH: usize = 20;
+
+/// The most bytes of a file in the old format, else [`FileTooLong`](crate::TypeNameError::FileTooLong) of
+/// [`widen`](crate::widen) and [`narrow`](crate::narrow).
+pub const OLD_MOST_BYTES: usize = 65_536;
+
+/// The number that the head record of the old format has in place of a token kind.
+pub const OLD_HEAD_KIND: u16 = 256;
+
+/// The bytes of a token record of the old format, without its word.
+pub const OLD_TOKEN_LENGTH: usize = 12;
+
+/// The bytes of an output buffer that is long enough for every file that [`widen`](crate::widen) accepts: 8 more for each of
+/// [`MOST_TOKENS`] tokens than [`OLD_MOST_BYTES`].
+pub const MOST_WIDENED: usize = 73_728;
 
 /// The most tokens of a row, else [`TooManyRecords`](crate::TypeNameError::TooManyRecords).
 pub const MOST_TOKENS: usize = 1_024;
@@ -68,4 +82,4 @@ pub const MOST_ITEMS: usize = 16;
 pub const LONGEST_SEQUENCE: usize = 4_112;
 
 /// A byte offset in the source, as token records hold it.
-pub type Offset = u32;
+pub type Offset = u64;

@@ -84,6 +84,41 @@ pub fn type_name_overlap(
     }
 }
 
+/// The C function that brings a file of the old format over to the one that is read: the answer is 0 and how many bytes stand
+/// in front of `output`, or a refusal, which leaves `output` as it was.
+///
+/// For those who want the numbers themselves; all others call [`widen`](crate::widen).
+pub fn type_name_widen(file: &[u8], output: &mut [u8], answer: &mut [u32]) -> u32 {
+    // SAFETY: as in `type_name_read`.
+    unsafe {
+        c::type_name_widen(
+            file.as_ptr(),
+            file.len(),
+            output.as_mut_ptr(),
+            output.len(),
+            answer.as_mut_ptr(),
+            answer.len(),
+        )
+    }
+}
+
+/// The C function that brings a file back to the old format: returns and writes what [`type_name_widen`] does.
+///
+/// For those who want the numbers themselves; all others call [`narrow`](crate::narrow).
+pub fn type_name_narrow(file: &[u8], output: &mut [u8], answer: &mut [u32]) -> u32 {
+    // SAFETY: as in `type_name_read`.
+    unsafe {
+        c::type_name_narrow(
+            file.as_ptr(),
+            file.len(),
+            output.as_mut_ptr(),
+            output.len(),
+            answer.as_mut_ptr(),
+            answer.len(),
+        )
+    }
+}
+
 /// As `include/type_name.h` declares them.
 mod c {
     unsafe extern "C" {
@@ -123,6 +158,24 @@ mod c {
             later: u32,
             sequence: *mut u8,
             sequence_len: usize,
+            answer: *mut u32,
+            answer_len: usize,
+        ) -> u32;
+
+        pub fn type_name_widen(
+            file: *const u8,
+            file_len: usize,
+            output: *mut u8,
+            output_len: usize,
+            answer: *mut u32,
+            answer_len: usize,
+        ) -> u32;
+
+        pub fn type_name_narrow(
+            file: *const u8,
+            file_len: usize,
+            output: *mut u8,
+            output_len: usize,
             answer: *mut u32,
             answer_len: usize,
         ) -> u32;

@@ -82,15 +82,16 @@ impl<'a> Iterator for Tokens<'a> {
 
 /// The token whose record begins the bytes, and that record's length.
 fn read(bytes: &[u8], number: u32) -> Option<(Token<'_>, usize)> {
-    let &[l0, l1, k0, k1, s0, s1, s2, s3, e0, e1, e2, e3] = bytes.first_chunk::<TOKEN_LENGTH>()?;
+    let &[l0, l1, k0, k1, ref span @ ..] = bytes.first_chunk::<TOKEN_LENGTH>()?;
+    let (&start, &end) = (span.first_chunk()?, span.last_chunk()?);
     let length = usize::from(u16::from_le_bytes([l0, l1]));
     let kind = TokenKind::try_from(u32::from(u16::from_le_bytes([k0, k1]))).ok()?;
     let token = Token {
         number,
         kind,
         word: core::str::from_utf8(bytes.get(TOKEN_LENGTH..length)?).ok()?,
-        start: Offset::from_le_bytes([s0, s1, s2, s3]),
-        end: Offset::from_le_bytes([e0, e1, e2, e3]),
+        start: Offset::from_le_bytes(start),
+        end: Offset::from_le_bytes(end),
     };
     let word_stands = match kind {
         TokenKind::Identifier => checked_word(token.word).is_ok(),

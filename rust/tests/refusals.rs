@@ -50,7 +50,14 @@ fn of_the_file() {
         number(&[0; MOST_BYTES + 1]),
         (TypeNameError::FileTooLong, 0)
     );
-    for wrong in [vec![], changed(0, 12), changed(3, 0), changed(6, 2)] {
+    // Kind 256 is the old format's.
+    for wrong in [
+        vec![],
+        changed(0, 12),
+        changed(2, 0),
+        changed(3, 0),
+        changed(6, 2),
+    ] {
         assert_eq!(number(&wrong), (TypeNameError::InvalidHead, 0));
     }
     for unknown in [changed(4, 3), changed(5, 5)] {

@@ -4,11 +4,11 @@ mod support;
 
 use support::{c, checked, row};
 use type_name::{
-    CStandard, Head, LONGEST_WORD, NodeKind, RecordError, Row, Token, TokenKind, Tokens,
+    CStandard, Head, LONGEST_WORD, NodeKind, Offset, RecordError, Row, Token, TokenKind, Tokens,
     parse_type_name, tree_for,
 };
 
-fn pushed(text: &str, span: std::ops::Range<u32>) -> Result<(), RecordError> {
+fn pushed(text: &str, span: std::ops::Range<Offset>) -> Result<(), RecordError> {
     let mut row = Row::new(Head::default());
     let before = row.clone();
     let done = row.push(TokenKind::Identifier, text, span);
@@ -30,9 +30,13 @@ fn what_cannot_stand_is_reported() {
         clippy::reversed_empty_ranges,
         reason = "a span that ends before it starts"
     )]
-    let reversed = 1..0;
-    assert_eq!(pushed("a", reversed), Err(RecordError::SpanReversed));
-    assert_eq!(pushed("a", 7..u32::MAX), Ok(()));
+    // The second in the upper halves of its offsets alone.
+    let reversed = [1..0, 1 << 32..0];
+    for span in reversed {
+        assert_eq!(pushed("a", span), Err(RecordError::SpanReversed));
+    }
+    assert_eq!(pushed("a", 7..Offset::MAX), Ok(()));
+    assert_eq!(pushed("a", 0xffff_ffff..1 << 32), Ok(()));
 }
 
 #[test]

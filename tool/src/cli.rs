@@ -5,7 +5,7 @@ use std::io::{self, Write};
 use std::process::ExitCode;
 
 use crate::excerpt::visible;
-use crate::{matching, overlaps, read, table};
+use crate::{convert, matching, overlaps, read, table};
 
 const HELP: &str = "\
 type-name COMMAND ..: reads names of C, C++ and Fortran types with the proved reader
@@ -15,10 +15,12 @@ Commands:
     match      the rule of a table that wins for a type name
     overlaps   the pairs of rules of a table that some sequence of nodes matches together
     table      the file of a table, for the functions of the library
+    widen      brings row files of the old format over to the one that is read
+    narrow     brings them back
     help       prints this
 `type-name COMMAND --help` says more. `type-name --version` prints the version.
 
-Exit status: 0 accepted, or no rules overlap; 1 refused, or some do; 2 wrong use or input.
+Exit status: 0 accepted or converted, or no rules overlap; 1 refused, or some do; 2 wrong use or input.
 ";
 
 /// What a command comes to.
@@ -29,6 +31,8 @@ pub enum Answer {
     Refused(String),
     /// A file to write to standard output; exit status 0.
     File(Vec<u8>),
+    /// What to print on standard error, as the file is refused that was to be written to standard output; exit status 1.
+    NoFile(String),
 }
 
 /// Wrong use or input: what to print on standard error; exit status 2.
@@ -45,11 +49,13 @@ pub type Done = Result<Answer, Wrong>;
 type Command = fn(&[OsString]) -> Done;
 
 /// Each command by its name. Later ones are added here.
-const COMMANDS: [(&str, Command); 4] = [
+const COMMANDS: [(&str, Command); 6] = [
     ("read", read::command),
     ("match", matching::command),
     ("overlaps", overlaps::command),
     ("table", table::command),
+    ("widen", convert::widen_command),
+    ("narrow", convert::narrow_command),
 ];
 
 /// Runs the tool with the words behind its name.
@@ -58,6 +64,7 @@ pub fn run(arguments: Vec<OsString>) -> ExitCode {
         Ok(Answer::Accepted(text)) => (text.into_bytes(), 0),
         Ok(Answer::Refused(text)) => (text.into_bytes(), 1),
         Ok(Answer::File(bytes)) => (bytes, 0),
+        Ok(Answer::NoFile(text)) => return on_standard_error(&text, 1),
         Err(Wrong(message)) => return wrong(&message),
     };
     match io::stdout().write_all(&bytes) {
@@ -69,10 +76,14 @@ pub fn run(arguments: Vec<OsString>) -> ExitCode {
 }
 
 fn wrong(message: &str) -> ExitCode {
-    let lines: Vec<String> = message.trim_end().lines().map(visible).collect();
+    on_standard_error(&format!("type-name: {message}"), 2)
+}
+
+fn on_standard_error(text: &str, status: u8) -> ExitCode {
+    let lines: Vec<String> = text.trim_end().lines().map(visible).collect();
     // There is nowhere to say that this cannot be said.
-    let _ = writeln!(io::stderr(), "type-name: {}", lines.join("\n"));
-    ExitCode::from(2)
+    let _ = writeln!(io::stderr(), "{}", lines.join("\n"));
+    ExitCode::from(status)
 }
 
 fn done(arguments: &[OsString]) -> Done {

@@ -1,11 +1,12 @@
 //! What to write instead of a text that is refused, which was tried before it is given: the proved reader accepts what it
-//! leads to. And a rule for a type name that no rule matches.
+//! leads to. And a rule for a type name that no rule matches, and what a file is that has another format than was asked for.
 
 use std::fmt;
 
 use type_name::{
-    Head, HostLanguage, HostLanguageProfile, Item, ListRefusal, MOST_ITEMS, Node, NodeKind,
-    PartPlace, Refusal, TokenKind, TypeNameError, parse_type_list, parse_type_name, tree_for,
+    Conversion, ConversionRefusal, Head, HostLanguage, HostLanguageProfile, Item, ListRefusal,
+    MOST_ITEMS, Node, NodeKind, PartPlace, Refusal, TokenKind, TypeNameError, parse_type_list,
+    parse_type_name, tree_for, widen,
 };
 
 use crate::item_text::items_text;
@@ -41,7 +42,15 @@ enum Reading {
     List,
 }
 
-pub fn hint(text: &Text, refusal: Refusal) -> Option<Hint> {
+/// Of what was made of a text, or of a row file.
+pub fn hint(source: &Source, refusal: Refusal) -> Option<Hint> {
+    match &source.text {
+        Some(text) => text_hint(text, refusal),
+        None => file_hint(&source.file, refusal),
+    }
+}
+
+fn text_hint(text: &Text, refusal: Refusal) -> Option<Hint> {
     match refusal.error {
         TypeNameError::AllowancePassed => greater_allowance(),
         TypeNameError::TopLevelComma if rewritten(text).is_none() => alone(text),
@@ -49,8 +58,44 @@ pub fn hint(text: &Text, refusal: Refusal) -> Option<Hint> {
     }
 }
 
+/// The same of a list.
+pub fn list_hint(source: &Source, refused: &ListRefusal) -> Option<Hint> {
+    match &source.text {
+        Some(text) => list_text_hint(text, refused),
+        None => file_hint(&source.file, refused.refusal),
+    }
+}
+
+fn file_hint(file: &[u8], refusal: Refusal) -> Option<Hint> {
+    if refusal.error == TypeNameError::InvalidHead && is_old(file) {
+        return plain("the file is in the old format; `type-name widen` brings it over".into());
+    }
+    None
+}
+
+/// Of a file that is in the format that it was to be brought to.
+pub fn conversion_hint(file: &[u8], refused: ConversionRefusal) -> Option<Hint> {
+    let is_there = match refused.conversion {
+        Conversion::Widen => is_current,
+        Conversion::Narrow => is_old,
+    };
+    if refused.refusal.error == TypeNameError::InvalidHead && is_there(file) {
+        return plain("the file is in that format already".into());
+    }
+    None
+}
+
+fn is_old(file: &[u8]) -> bool {
+    widen(file).is_ok()
+}
+
+/// Whether the reader finds no fault in file and records. Without a buffer it stops there.
+fn is_current(file: &[u8]) -> bool {
+    parse_type_name(file, &mut []).is_err_and(|refusal| refusal.error.number() > 5)
+}
+
 /// Of a list what to write for the part that is refused, or a profile that accepts the whole.
-pub fn list_hint(text: &Text, refused: &ListRefusal) -> Option<Hint> {
+fn list_text_hint(text: &Text, refused: &ListRefusal) -> Option<Hint> {
     if refused.refusal.error == TypeNameError::AllowancePassed {
         return greater_allowance();
     }

@@ -5,6 +5,7 @@
 pub mod cli;
 pub mod lexer;
 
+mod convert;
 mod draw;
 mod excerpt;
 mod hints;

@@ -56,10 +56,9 @@ fn inputs(options: &Options) -> Result<(Rules, Source), Wrong> {
 }
 
 fn refused(source: &Source, refusal: Refusal, json: bool) -> String {
-    let hint = match (refusal.error, &source.text) {
-        (TypeNameError::NoRuleMatches, _) => matching_rule(source),
-        (_, Some(text)) => hint(text, refusal),
-        (_, None) => None,
+    let hint = match refusal.error {
+        TypeNameError::NoRuleMatches => matching_rule(source),
+        _ => hint(source, refusal),
     };
     match json {
         true => json::refused(refusal, hint.as_ref()),

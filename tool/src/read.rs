@@ -81,8 +81,7 @@ impl Form {
     }
 
     fn refused(self, source: &Source, refusal: Refusal) -> String {
-        let text = source.text.as_ref();
-        let hint = || text.and_then(|text| hint(text, refusal));
+        let hint = || hint(source, refusal);
         match self {
             Self::Words => refused::sentence(source, refusal, hint().as_ref()),
             Self::Listing => listing::refused(refusal),
@@ -91,8 +90,7 @@ impl Form {
     }
 
     fn refused_list(self, source: &Source, refused: &ListRefusal) -> String {
-        let text = source.text.as_ref();
-        let hint = || text.and_then(|text| list_hint(text, refused));
+        let hint = || list_hint(source, refused);
         match self {
             Self::Words => refused::list_sentence(source, refused, hint().as_ref()),
             Self::Listing => listing::refused_list(refused),

@@ -69,8 +69,7 @@ impl Source {
 
     /// A row file, of whose allowance at most so much is used.
     pub fn of_file(path: &OsStr, allowance: Option<u32>) -> Result<Self, Wrong> {
-        // One byte more than a file may have, so that a longer one is refused and not cut.
-        let mut file = read(path, MOST_BYTES as u64 + 1)?;
+        let mut file = row_file(path)?;
         if let Some(most) = allowance {
             limit_allowance(&mut file, most);
         }
@@ -144,6 +143,12 @@ pub fn read_whole(path: &OsStr, most: u64, what: &str) -> Result<Vec<u8>, Wrong>
         return Err(Wrong(format!("a {what} has at most {most} bytes")));
     }
     Ok(bytes)
+}
+
+/// The bytes of a row file of any format: of one that is too long one byte more than it may have, so that it is refused and not
+/// cut.
+pub fn row_file(path: &OsStr) -> Result<Vec<u8>, Wrong> {
+    read(path, MOST_BYTES as u64 + 1)
 }
 
 /// The bytes of a file, at most so many.

@@ -41,7 +41,7 @@ fn each_token_kind_of_a_file_has_a_spelling() {
     // The second record, which has no word, with each kind that can stand there; most rows are refused then.
     for kind in 1..57 {
         let mut file = row.to_vec();
-        file[11 + 16 + 2] = kind;
+        file[11 + 24 + 2] = kind;
         let words = ["read", "--file", "-"].map(OsStr::new);
         let call = called_with(&words, &file);
         assert!(call.status < 2, "kind {kind}: {}", call.err);
@@ -78,7 +78,7 @@ fn a_refusal_of_a_row_file_names_the_token_s_place() {
     assert!(refused(&["--file", "/dev/null"]).starts_with("refusal 2: the head record"));
     // The last token of `Lane<(Key<8>>2)>` for another: an angle stays open.
     let mut file = include_bytes!("../../examples/lane.row").to_vec();
-    let kind = file.len() - 10;
+    let kind = file.len() - 18;
     file[kind] = 21;
     let words = ["read", "--file", "-"].map(OsStr::new);
     let expected =

@@ -27,7 +27,7 @@ fn texts_with_a_slash_are_texts() {
 
 /// Wrong calls, and what each is told.
 #[rustfmt::skip]
-const WRONG: [(&[&str], &str); 31] = [
+const WRONG: [(&[&str], &str); 36] = [
     (&[], "a command is missing"),
     (&["reed", "int"], "no command `reed`"),
     (&["read"], "a TEXT or --file ROW is missing"),
@@ -59,6 +59,11 @@ const WRONG: [(&[&str], &str); 31] = [
     (&["table"], "a TABLE is missing"),
     (&["table", "no-such.rules"], "no-such.rules: "),
     (&["overlaps", "--standard", "c99", "lane.rules"], "no option --standard"),
+    (&["widen"], "a FILE is missing"),
+    (&["widen", "no-such.row"], "no-such.row: "),
+    (&["widen", "lane.row", "lane_checked.row"], "`lane_checked.row` is one word too many; --into takes several"),
+    (&["narrow", "-o", "a", "--into", "b", "lane.row"], "exclude each other"),
+    (&["narrow", "lane.row", "-o"], "-o needs a value"),
 ];
 
 #[test]
@@ -108,6 +113,8 @@ fn help_is_no_fault() {
         &["match", "--help"],
         &["overlaps", "--help"],
         &["table", "--help"],
+        &["widen", "--help"],
+        &["narrow", "--help"],
         &["--version"],
     ] {
         let call = called(words);

@@ -1,5 +1,6 @@
 // Answers as numbers, in an array that the caller lends.
 
+use convert::entry::ConvertAnswer;
 use rows::answer::Answer;
 use rows::answer::refusal_of;
 use rule_answers::matching::MatchAnswer;
@@ -9,6 +10,7 @@ ghost use mathlib.Core.Path.{_≡_};
 ghost use Rattle.type_name.specs.AnswerNumbers.{answer-code, answer-numbers};
 ghost use Rattle.rule_answers.specs.AnswerNumbers.{match-code, match-numbers, overlap-code, overlap-numbers};
 ghost use Rattle.type_list.specs.AnswerNumbers.{list-code, list-numbers};
+ghost use Rattle.convert.specs.AnswerNumbers.{convert-code, convert-numbers};
 ghost use Rattle.exports.specs.Numbers.{put-front};
 
 // As many of `numbers` as `array` has room for.
@@ -112,5 +114,20 @@ pub fn put_list(array: &mut [u32], answer: ListAnswer) -> u32
             put_front(array, &numbers);
             refusal.number
         }
+    }
+}
+
+// The same of the answer to a conversion.
+pub fn put_conversion(array: &mut [u32], answer: ConvertAnswer) -> u32
+    ensures returned { λ r. ⌜ r ≡ convert-code answer ⌝ }
+    ensures written { λ _. ⌜ now (array .exit) ≡ put-front (convert-numbers answer) (now (array .entry)) ⌝ }
+{
+    match answer {
+        ConvertAnswer::Converted { bytes } => {
+            let numbers = [0, bytes, 0, 0];
+            put_front(array, &numbers);
+            0
+        }
+        ConvertAnswer::Refused(error) => put_answer(array, Answer::Refused { error, steps: 0 }),
     }
 }

@@ -10,6 +10,8 @@ use libc::STDIN_FILENO;
 use libc::STDOUT_FILENO;
 use reader::nodes::NODE_WIDTH;
 use reader::nodes::NUMBERS_PER_TOKEN;
+use rows::answer::Answer;
+use rows::answer::TypeNameError;
 use rows::row::MOST_TOKENS;
 use type_name::entry::parse_type_name;
 ghost use mathlib.Core.Path.{_≡_};
@@ -20,7 +22,7 @@ ghost use Rattle.text.specs.Text.{Appended};
 ghost use Rattle.listing.specs.Listing.{listing-length};
 ghost use Rattle.listing.specs.FileListing.{file-listing, input-length, tree-length};
 
-// The format's file limit, which `list` asks of its input buffer.
+// The program's own, below the format's.
 const FILE_LIMIT: usize = 65536;
 
 // Input that fills it is too long, refusal 1.
@@ -38,6 +40,13 @@ fn list(input: &[u8], size: usize, text: &mut [u8]) -> usize
     ensures listed { λ r. ⌜ Appended (now (text .entry)) 0 (file-listing (take size (now (input .entry)))) r (now (text .exit)) ⌝ }
 {
     let mut tree = [0u32; TREE_LENGTH];
+    if FILE_LIMIT < size {
+        let too_long = Answer::Refused {
+            error: TypeNameError::FileTooLong,
+            steps: 0,
+        };
+        return put_listing(text, too_long, &tree);
+    }
     let answer = parse_type_name(&input[..size], &mut tree);
     put_listing(text, answer, &tree)
 }

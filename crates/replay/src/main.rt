@@ -38,7 +38,7 @@ const AT_BEHIND: usize = AT_STORED + 1;
 const ANSWER_NUMBERS: usize = 4;
 
 // The format's file limit, which `replay_rest` asks of the space for a file.
-const FILE_LIMIT: usize = 65536;
+const FILE_LIMIT: usize = 131072;
 
 // No case has a longer file.
 const FILE_LENGTH: usize = FILE_LIMIT + 1;

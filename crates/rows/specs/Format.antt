@@ -1,4 +1,4 @@
--- The numbers of the record file: document 01, "Head record", "Token record" and "Answer record".
+-- The numbers of the record file: document 01, "Head record", "Token record" and "Answer record"; document 02, C-14.
 -- Assumes nothing.
 use Prim.Native.Nat.{ℕ, _+_, _*_, _≤_}
 use mathlib.Core.Bool.{Bool, not}
@@ -13,16 +13,33 @@ use Rattle.rows.specs.declared.head.Meaning.{Meaning}
 use Rattle.rows.specs.declared.head.Meaning.the-variants.{Means, Unknown}
 use Rattle.rows.specs.Languages.{C, Cpp, Fortran, C18, C23, Cpp17, Cpp23, Fortran2018, Fortran2023}
 
--- Document 01's format; `Format` is the code's struct of the numbers that requests of document 02 change. "255 means C18, Cpp17 or Fortran2018."
+-- "255 means C18, Cpp17 or Fortran2018."
+abbrev pub default-standards : StandIn
+default-standards = StandsFor C18 Cpp17 Fortran2018
+
+-- The format that every entry reads; `Format` is the code's struct of the numbers that requests of document 02 change. C-14: "Span start and end become
+-- 8 bytes each ..; the head's kind becomes 261 ..; the file limit becomes 131,072 bytes".
 abbrev pub format : Format
 format =
+    record {
+      «head_kind» = 261;
+      «span_width» = Eight;
+      «file_limit» = 131072;
+      «greatest_flag» = 1;
+      «means_254» = Nothing;
+      «means_255» = default-standards;
+    }
+
+-- Document 01's format, C-14's "old files", "of at most 65,536 bytes as before".
+abbrev pub old-format : Format
+old-format =
     record {
       «head_kind» = 256;
       «span_width» = Four;
       «file_limit» = 65536;
       «greatest_flag» = 1;
       «means_254» = Nothing;
-      «means_255» = StandsFor C18 Cpp17 Fortran2018;
+      «means_255» = default-standards;
     }
 
 -- ---- the head record: "length (2 bytes, ..), kind (2 bytes, ..), language (1 byte ..), standard (1 byte, ..), structure flag (1 byte, ..), allowance (4 bytes)"
@@ -67,22 +84,22 @@ at-allowance = 7
 unfoldable pub asks-structure : (flag : ℕ) → Bool
 asks-structure flag = not (eqb flag 0)
 
--- ---- the token record: "Length (2 bytes), kind (2 bytes ..), span start and end (4 bytes each ..)", then the word of kind 0
+-- ---- the token record: "Length (2 bytes), kind (2 bytes ..), span start and end (4 bytes each ..)", 8 each since C-14, then the word of kind 0
 
 -- Byte offset of "span start and end" in a token record.
 abbrev pub at-span : ℕ
 at-span = 4
 
--- "span start and end (4 bytes each ..)": how many bytes a width is.
+-- "span start and end (4 bytes each ..)", C-14: "8 bytes each": how many bytes a width is.
 abbrev pub bytes-of : SpanWidth → ℕ
 bytes-of Four = 4
 bytes-of Eight = 8
 
--- "(4 bytes each ..)" in a format.
+-- The bytes of a span's start, and of its end, in a format.
 abbrev pub span-bytes : Format → ℕ
 span-bytes f = bytes-of (f .«span_width»)
 
--- The length without a word: 12 in document 01's format.
+-- The length without a word: 12 in document 01's format; C-14: "token records 20 bytes before any word".
 abbrev pub token-length : Format → ℕ
 token-length f = at-span + 2 * span-bytes f
 

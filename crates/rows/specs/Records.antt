@@ -1,4 +1,4 @@
--- The records of a file: document 01, "Head record" and "Token record". A file is the list of its bytes.
+-- The records of a file in a format: document 01, "Head record" and "Token record". A file is the list of its bytes.
 -- Assumes nothing.
 use Prim.Native.Nat.{ℕ, zero, suc, _+_, _*_, _-_}
 use mathlib.Core.Bool.{Bool, true, false, not, _&&_, _||_}
@@ -14,6 +14,7 @@ use Rattle.rows.specs.declared.answer.TypeNameError.{TypeNameError}
 use Rattle.rows.specs.declared.answer.TypeNameError.the-variants.{FileTooLong, InvalidHead, UnknownProfile, InvalidRecord, TooManyRecords}
 use Rattle.rows.specs.declared.head.Meaning.{Meaning}
 use Rattle.rows.specs.declared.head.Meaning.the-variants.{Means, Unknown}
+use Rattle.rows.specs.declared.token.SourceSpan.{SourceSpan}
 use Rattle.rows.specs.declared.token.TokenRecord.{TokenRecord}
 use Rattle.rows.specs.declared.token.TokenRecord.the-variants as TokenRecord
 use Rattle.rows.specs.declared.head.Head.{Head}
@@ -89,13 +90,17 @@ module _ (f : Format) (file : List ℕ) where
   unfoldable pub kind-at : (at : ℕ) → ℕ
   kind-at at = little-endian short-bytes file (at + at-kind)
 
-  -- "span start .. (4 bytes ..)" of it.
+  -- "span start .." of it.
   unfoldable pub span-start-at : (at : ℕ) → ℕ
   span-start-at at = little-endian (span-bytes f) file (at + at-span)
 
-  -- "span .. end (4 bytes ..)" of it.
+  -- "span .. end .." of it.
   unfoldable pub span-end-at : (at : ℕ) → ℕ
   span-end-at at = little-endian (span-bytes f) file (at + at-span + span-bytes f)
+
+  -- "span start and end" of it.
+  unfoldable pub span-at : (at : ℕ) → SourceSpan
+  span-at at = record { start = span-start-at at; end = span-end-at at }
 
   -- "The word is handed on as that part of the caller's file."
   unfoldable pub word-at : (at : ℕ) → List ℕ
@@ -109,7 +114,7 @@ module _ (f : Format) (file : List ℕ) where
       && leb (at + length-at at) (length file)
       && in-range (word-at at)
 
-  -- "Kind 0 adds a word ..; every other kind has length 12."
+  -- "Kind 0 adds a word ..; every other kind has length 12", or what the format has for it.
   unfoldable pub length-fits : (at : ℕ) → Bool
   length-fits at = if eqb (kind-at at) Identifier then word-fits at else eqb (length-at at) (token-length f)
 

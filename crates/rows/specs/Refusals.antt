@@ -9,7 +9,7 @@ use Rattle.rows.specs.declared.answer.Feature.{Feature}
 use Rattle.rows.specs.declared.answer.Feature.the-variants.{LongLong, Atomic, BitInt, Typeof, TypeofUnqual, Decltype, RvalueReference, Selector, DerivedType, Class, AssumedTypeOrRank}
 use Rattle.rows.specs.declared.answer.Refusal.{Refusal}
 use Rattle.rows.specs.declared.answer.TypeNameError.{TypeNameError}
-use Rattle.rows.specs.declared.answer.TypeNameError.the-variants.{FileTooLong, InvalidHead, UnknownProfile, InvalidRecord, TooManyRecords, ShortBuffer, Empty, UnexpectedClosingDelimiter, UnexpectedAngle, TopLevelComma, UnexpectedEndToken, UnclosedDelimiter, UnclosedAngle, MissingTypeWord, InvalidBoundaryToken, NestingLimitExceeded, UnterminatedGroup, MismatchedClosingDelimiter, UnexpectedTokenAfterTypeName, AllowancePassed, NoTypeName, NotAvailableInProfile, InvalidRuleTable, NoRuleMatches}
+use Rattle.rows.specs.declared.answer.TypeNameError.the-variants.{FileTooLong, InvalidHead, UnknownProfile, InvalidRecord, TooManyRecords, ShortBuffer, OffsetOver32Bits, Empty, UnexpectedClosingDelimiter, UnexpectedAngle, TopLevelComma, UnexpectedEndToken, UnclosedDelimiter, UnclosedAngle, MissingTypeWord, InvalidBoundaryToken, NestingLimitExceeded, UnterminatedGroup, MismatchedClosingDelimiter, UnexpectedTokenAfterTypeName, AllowancePassed, NoTypeName, NotAvailableInProfile, InvalidRuleTable, NoRuleMatches}
 
 -- "Token (65,535 if none)".
 abbrev pub no-token : ℕ
@@ -67,6 +67,8 @@ refusalOf UnexpectedTokenAfterTypeName = plainly 23
 refusalOf AllowancePassed = plainly 25
 refusalOf NoTypeName = plainly 30
 refusalOf (NotAvailableInProfile feature) = named 40 no-token (featureDetail feature)
--- Document 02, C-11: "New numbers: 50 rule table not of this form or of over 256 rules ..; 51 no rule matches".
+-- Document 02, C-14: "New numbers: 7 offset over 32 bits".
+refusalOf OffsetOver32Bits = plainly 7
+-- C-11: "New numbers: 50 rule table not of this form or of over 256 rules ..; 51 no rule matches".
 refusalOf InvalidRuleTable = plainly 50
 refusalOf NoRuleMatches = plainly 51

@@ -39,6 +39,7 @@ pub enum TypeNameError {
     },
     TooManyRecords,
     ShortBuffer,
+    OffsetOver32Bits,
     Empty,
     UnexpectedClosingDelimiter {
         expected: Open,
@@ -152,6 +153,7 @@ pub fn refusal_of(error: TypeNameError) -> Refusal
         TypeNameError::InvalidRecord { offset } => detailed(4, NO_TOKEN, offset),
         TypeNameError::TooManyRecords => plain(5),
         TypeNameError::ShortBuffer => plain(6),
+        TypeNameError::OffsetOver32Bits => plain(7),
         TypeNameError::Empty => plain(10),
         TypeNameError::UnexpectedClosingDelimiter {
             expected,

@@ -3,7 +3,7 @@
 use crate::languages;
 ghost use mathlib.Core.Path.{_≡_};
 ghost use Prim.Native.Nat.{_+_, _*_, _≤_};
-ghost use Rattle.rows.specs.Format.{at-span, bytes-of, format, token-length};
+ghost use Rattle.rows.specs.Format.{at-span, bytes-of, format, old-format, token-length};
 ghost use Rattle.rows.specs.declared.format.SpanWidth.the-variants.{Eight};
 
 // The bytes of a span's start, and of its end.
@@ -29,9 +29,27 @@ pub struct Format {
 
 pub const AT_SPAN: usize = 4;
 
-// Document 01's format.
+// The format that every entry reads.
 pub fn current() -> Format
     ensures { λ r. ⌜ r ≡ format ⌝ }
+{
+    Format {
+        head_kind: 261,
+        span_width: SpanWidth::Eight,
+        file_limit: 131072,
+        greatest_flag: 1,
+        means_254: StandIn::Nothing,
+        means_255: StandIn::StandsFor {
+            c: languages::C18,
+            cpp: languages::CPP17,
+            fortran: languages::FORTRAN2018,
+        },
+    }
+}
+
+// Document 01's format, which only conversions know.
+pub fn old() -> Format
+    ensures { λ r. ⌜ r ≡ old-format ⌝ }
 {
     Format {
         head_kind: 256,

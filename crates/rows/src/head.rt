@@ -17,13 +17,13 @@ const AT_LENGTH: usize = 0;
 // In a token record too.
 pub const AT_KIND: usize = 2;
 
-const AT_LANGUAGE: usize = 4;
+pub const AT_LANGUAGE: usize = 4;
 
-const AT_STANDARD: usize = 5;
+pub const AT_STANDARD: usize = 5;
 
-const AT_FLAG: usize = 6;
+pub const AT_FLAG: usize = 6;
 
-const AT_ALLOWANCE: usize = 7;
+pub const AT_ALLOWANCE: usize = 7;
 
 // Numbers outside the order in which standards are declared, which a format may know.
 const STANDARD_254: u8 = 254;

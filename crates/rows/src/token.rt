@@ -14,7 +14,7 @@ ghost use mathlib.Core.Path.{_≡_};
 ghost use Prim.Native.Nat.{_+_, _≤_};
 ghost use lib.ListN.{length};
 ghost use Rattle.rows.specs.Format.{bytes-of, token-length};
-ghost use Rattle.rows.specs.Records.{found, in-range, kind-at, length-at, length-fits, little-endian, word-fits, word-in};
+ghost use Rattle.rows.specs.Records.{found, in-range, kind-at, length-at, length-fits, little-endian, span-at, word-fits, word-in};
 
 pub const LONGEST_WORD: usize = 255;
 
@@ -51,6 +51,24 @@ fn span_number(file: &[u8], at: usize, width: SpanWidth) -> usize
         SpanWidth::Four => four_bytes(file, at),
         SpanWidth::Eight => eight_bytes(file, at),
     }
+}
+
+// Where a token stands in the source that its row was made from.
+pub struct SourceSpan {
+    pub start: usize,
+    pub end: usize,
+}
+
+// The span of the token record at a byte offset.
+pub fn span(format: Format, file: &[u8], place: usize) -> SourceSpan
+    requires { ⌜ place + token-length format ≤ length (now file) ⌝ }
+    ensures { λ r. ⌜ r ≡ span-at format (now (file .entry)) place ⌝ }
+{
+    let width = format.span_width;
+    let first = place + AT_SPAN;
+    let start = span_number(file, first, width);
+    let end = span_number(file, first + span_bytes(width), width);
+    SourceSpan { start, end }
 }
 
 // The record at a byte offset has a word of 1 to 255 bytes that are in range; `size` is its length.
@@ -99,10 +117,8 @@ pub fn token_at(format: Format, file: &[u8], at: usize) -> TokenRecord
     if (kinds::END as usize) < kind {
         return TokenRecord::Malformed;
     }
-    let width = format.span_width;
-    let start = at + AT_SPAN;
-    let end = start + span_bytes(width);
-    if span_number(file, end, width) < span_number(file, start, width) {
+    let span = span(format, file, at);
+    if span.end < span.start {
         return TokenRecord::Malformed;
     }
     let length = two_bytes(file, at);

@@ -8,7 +8,7 @@ use Rattle.rows.specs.Records.{RowToken}
 use Rattle.rows.specs.declared.answer.TypeNameError.{TypeNameError}
 use Rattle.rows.specs.declared.answer.TypeNameError.the-variants.{InvalidRuleTable, NoRuleMatches}
 use Rattle.reader.specs.Nodes.{Nodes, count}
-use Rattle.type_name.specs.FileRow.{Outcome, untouched, passes, on-pass, file-row}
+use Rattle.type_name.specs.FileRow.{HeadRow, Outcome, untouched, passes, on-pass, file-row, entry-outcome}
 use Rattle.type_name.specs.Answers.{RowAnswer, row-answer, buffer-in}
 use Rattle.type_name.specs.Answers
 use Rattle.rules.specs.Rules.{Rule, Winner, no-winner, wins, winner}
@@ -39,10 +39,15 @@ unfolding with-winner
 by-table no-table row a = refused InvalidRuleTable 0
 by-table (a-table rs) row a = with-winner rs row a
 
+-- The answer to a file's head and row, and a table.
+unfoldable pub row-match : (rules : List ℕ) → HeadRow → RuleAnswer
+unfolding by-table row-answer
+row-match rules r = by-table (table-of rules) (r .tokens) (row-answer r)
+
 -- "50 .., checked after 6".
 unfoldable pub match-outcome : (file rules : List ℕ) (room : ℕ) → Outcome RuleAnswer
-unfolding on-pass file-row by-table row-answer
-match-outcome file rules room = on-pass (file-row format file room) λ r. passes (by-table (table-of rules) (r .tokens) (row-answer r))
+unfolding on-pass file-row row-match
+match-outcome file rules room = entry-outcome format (row-match rules) file room
 
 -- Matched: node count, steps, "place from 0".
 unfoldable pub match-in : Outcome RuleAnswer → MatchAnswer

@@ -7,7 +7,7 @@ use Rattle.rows.specs.Format.{format}
 use Rattle.rows.specs.Records.{RowToken, kinds-of, words-of}
 use Rattle.rows.specs.declared.answer.TypeNameError.{TypeNameError}
 use Rattle.reader.specs.Nodes.{Nodes, count, records}
-use Rattle.type_name.specs.FileRow.{HeadRow, Outcome, untouched, passes, on-pass, file-row}
+use Rattle.type_name.specs.FileRow.{HeadRow, Outcome, untouched, passes, on-pass, file-row, entry-outcome}
 use Rattle.type_name.specs.Answers.{RowAnswer, answerOf, filled}
 use Rattle.type_name.specs.Answers
 use Rattle.type_list.specs.Parts.{parts}
@@ -50,7 +50,7 @@ row-parts-answer r =
 -- What comes of a file with a tree buffer of `room` numbers: refusals 1 to 6 as ever, then the parts of its row.
 unfoldable pub list-outcome : (file : List ℕ) (room : ℕ) → Outcome PartsAnswer
 unfolding on-pass file-row row-parts-answer
-list-outcome file room = on-pass (file-row format file room) λ r. passes (row-parts-answer r)
+list-outcome file room = entry-outcome format row-parts-answer file room
 
 -- "65,535 before any": the part of a refusal that is given before there are parts.
 abbrev pub no-part : ℕ

@@ -23,7 +23,7 @@ use Rattle.structure.specs.Syntax.{validate-structured-syntax}
 use Rattle.profile.specs.Profile.{missing-feature}
 use Rattle.profile.specs.declared.profile.Lack.{Lack}
 use Rattle.profile.specs.declared.profile.Lack.the-variants.{Nothing, Lacks}
-use Rattle.type_name.specs.FileRow.{HeadRow, Outcome, untouched, passes, on-pass, file-row}
+use Rattle.type_name.specs.FileRow.{HeadRow, Outcome, untouched, passes, on-pass, file-row, entry-outcome}
 
 -- ---- the answer to a row, place by place
 
@@ -113,10 +113,10 @@ unfolding answerOf kinds-of words-of
 row-answer r =
     answerOf (r .the-head .language) (r .the-head .standard) (r .the-head .flag) (kinds-of (r .tokens)) (words-of (r .tokens)) (r .the-head .allowance)
 
--- What comes of a file with a tree buffer of `room` numbers. "Places are tested in the table's order."
+-- What comes of a file with a tree buffer of `room` numbers.
 unfoldable pub outcome : (file : List ℕ) (room : ℕ) → Outcome RowAnswer
 unfolding on-pass file-row row-answer
-outcome file room = on-pass (file-row format file room) λ r. passes (row-answer r)
+outcome file room = entry-outcome format row-answer file room
 
 -- "Accepted: node count, steps. Refused: number, token, detail, steps."
 unfoldable pub answer-in : Outcome RowAnswer → Answer

@@ -52,3 +52,8 @@ file-row f file room =
     on-pass (head-read (head f file)) λ h.
     on-pass (row-read (records-from f file most-tokens head-length)) λ ts.
     with-room room h ts
+
+-- What comes of a file in a format with a tree buffer of `room` numbers, by an entry that answers so to the head and the row that it reads. "Places are
+-- tested in the table's order."
+abbrev pub entry-outcome : {A : Type 0} → Format → (HeadRow → A) → (file : List ℕ) (room : ℕ) → Outcome A
+entry-outcome f answers file room = on-pass (file-row f file room) λ r. passes (answers r)

@@ -81,7 +81,9 @@ bit-int = word "unsigned" ∷ word "_BitInt" ∷ sign LeftParen ∷ sign Integer
 
 -- `int` as a file, in C89 with flag 1: the head record with an allowance below 256, and one token record.
 abbrev pub int-file : (allowance : ℕ) → List ℕ
-int-file allowance = 11 ∷ 0 ∷ 0 ∷ 1 ∷ C ∷ C89 ∷ 1 ∷ allowance ∷ 0 ∷ 0 ∷ 0 ∷ 15 ∷ 0 ∷ Identifier ∷ 0 ∷ 0 ∷ 0 ∷ 0 ∷ 0 ∷ 3 ∷ 0 ∷ 0 ∷ 0 ∷ bytes "int"
+int-file allowance =
+    11 ∷ 0 ∷ 5 ∷ 1 ∷ C ∷ C89 ∷ 1 ∷ allowance ∷ 0 ∷ 0 ∷ 0
+    ∷ 23 ∷ 0 ∷ Identifier ∷ 0 ∷ 0 ∷ 0 ∷ 0 ∷ 0 ∷ 0 ∷ 0 ∷ 0 ∷ 0 ∷ 3 ∷ 0 ∷ 0 ∷ 0 ∷ 0 ∷ 0 ∷ 0 ∷ 0 ∷ bytes "int"
 
 -- Flag 1 unless said.
 pub record StarredRows : Type 0 where

@@ -7,11 +7,13 @@ use std::hint::black_box;
 use std::process::{Command, ExitCode};
 use std::time::{Duration, Instant};
 
+use harness::conversions::model::Conversion;
 use harness::format::{NUMBERS_PER_TOKEN, Row};
 use harness::token_list::{TokenList, TypeName, TypeNameError};
 use type_name::{ANSWER_LENGTH, type_name_read, type_name_read_list};
 
 mod classes;
+mod conversions;
 mod lists;
 mod rules;
 mod stack;
@@ -27,13 +29,16 @@ bench CORPUS [--class TEXT]
     buffer is lent, of just the size that the row needs, with what the row before left in it.
 bench CORPUS --stack
     For each class the most bytes of stack that the proved reader takes for a row of it, and type_name_read_list for the
-    row twice, as a list.
+    row twice, as a list; then those of both conversions for an accepted row of the corpus.
 bench CORPUS --rules
     Time and instructions a row of type_name_match, beside type_name_read, on the accepted rows of the corpus with tables
     of 32 rules; the time of all calls of type_name_overlap over the greatest tables; the most bytes of stack of both.
 bench CORPUS --lists
     Time and instructions of type_name_read_list on rows of 1 to 8 accepted types of the corpus and on rows of one type over
     and over, a row and a part, beside those of type_name_read on the parts alone.
+bench CORPUS --conversions [--class TEXT]
+    Time and instructions a token of type_name_widen and type_name_narrow on each class of rows (whose name contains TEXT),
+    beside those of type_name_read; spans are as a lexer gives them.
 ";
 
 /// A round goes over a class as often as the original gets through it in this time, and once more.
@@ -56,6 +61,8 @@ fn main() -> ExitCode {
         [corpus, "--rules-once", name] => rules::once(corpus, name),
         [corpus, "--lists"] => lists::table(corpus),
         [corpus, "--lists-once", read, name] => lists::once(corpus, read, name),
+        [corpus, "--conversions"] => conversions::table(corpus, ""),
+        [corpus, "--conversions", "--class", text] => conversions::table(corpus, text),
         [corpus, "--once", reader, name] => once(corpus, reader, name),
         _ => Err(HELP.to_owned()),
     };
@@ -111,6 +118,11 @@ fn stacks(corpus: &str) -> Result<(), String> {
         let list = stack::most(&lists::doubled(&rows), type_name_read_list);
         println!("{}: {one}", class.name);
         println!("{}, twice in a list: {list}", class.name);
+    }
+    let rows = classes::accepted(corpus);
+    for conversion in Conversion::BOTH {
+        let converted = conversions::stack(&rows, conversion);
+        println!("corpus, {conversion:?}: {converted}");
     }
     Ok(())
 }
@@ -196,6 +208,8 @@ fn once(corpus: &str, reader: &str, name: &str) -> Result<(), String> {
     match reader {
         "original" => drop(original(inputs.lists, identity)),
         "original-freed" => drop(original(inputs.lists, drop)),
+        "widen" => conversions::once(&rows, Conversion::Widen),
+        "narrow" => conversions::once(&rows, Conversion::Narrow),
         _ => {
             let mut tree = vec![DIRT; inputs.longest()];
             black_box(proved_reads(&inputs, &mut tree));
@@ -213,6 +227,7 @@ fn counted(arguments: &[&str]) -> Result<u64, String> {
         .arg("--toggle-collect=*proved_reads*")
         .arg("--toggle-collect=*proved_matches*")
         .arg("--toggle-collect=*proved_lists*")
+        .arg("--toggle-collect=*proved_conversions*")
         .arg(program)
         .args(arguments)
         .output()

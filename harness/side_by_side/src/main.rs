@@ -12,6 +12,7 @@ use harness::oracle;
 use harness::profile::LANGUAGES;
 use type_name::{ANSWER_LENGTH, type_name_read};
 
+mod conversions;
 mod corpus;
 mod lists;
 mod notes;
@@ -37,6 +38,10 @@ side_by_side --lists [--seed S] [--count N]
     N calls or some more (default 100000, seed 1) for several types in one row: all short rows over an alphabet, then
     generated and damaged ones with allowances about the steps by each part's end: the harness's model of such rows and the
     proved library, which is held to its own reading of each part alone, too. Prints how often each outcome was seen.
+side_by_side --conversions [--seed S] [--count N]
+    N calls or some more (default 100000, seed 1) for the conversions between the old format and the current one: files that
+    are chosen, generated, damaged and at the limits, the harness's model and the proved library; what is converted is
+    converted back, and some widened files are read. Prints how often each outcome was seen.
 ";
 
 /// What the buffer holds before a call.
@@ -45,7 +50,11 @@ const DIRT: u32 = 0xdead_beef;
 /// Compares the library with a model of the harness, from a seed on, in so many calls.
 type Compare = fn(seed: u64, count: u64) -> ExitCode;
 
-const MODELS: [(&str, Compare); 2] = [("--rules", rules::compare), ("--lists", lists::compare)];
+const MODELS: [(&str, Compare); 3] = [
+    ("--rules", rules::compare),
+    ("--lists", lists::compare),
+    ("--conversions", conversions::compare),
+];
 
 fn main() -> ExitCode {
     let options = Options(std::env::args().skip(1).collect());

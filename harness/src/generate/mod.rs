@@ -135,12 +135,16 @@ fn allowance(random: &mut Random) -> u32 {
     }
 }
 
-/// Mostly as a lexer would number them; sometimes the outermost values.
-fn span(random: &mut Random, number: u32) -> (u32, u32) {
+/// Mostly as a lexer would number them; sometimes the outermost values, or
+/// about where 32 bits end.
+fn span(random: &mut Random, number: u64) -> (u64, u64) {
+    let beyond = u64::from(u32::MAX) + 1;
     match random.below(64) {
-        0 => (0, u32::MAX),
-        1 => (u32::MAX, u32::MAX),
+        0 => (0, u64::MAX),
+        1 => (u64::MAX, u64::MAX),
         2 => (number, number),
+        3 => (beyond - 1, beyond),
+        4 => (beyond + number, 2 * beyond),
         _ => (2 * number, 2 * number + 1),
     }
 }

@@ -5,7 +5,7 @@ use std::ops::Range;
 
 use super::cut;
 use crate::answer::{Answer, Refusal};
-use crate::format::{Head, NODE_WIDTH, NUMBERS_PER_TOKEN, Row};
+use crate::format::{Format, Head, NODE_WIDTH, NUMBERS_PER_TOKEN, Row};
 use crate::oracle;
 use crate::rules::model::hand_out;
 
@@ -100,7 +100,12 @@ pub fn type_name_read_list(file: &[u8], tree: &mut [u32], answer: &mut [u32]) ->
 /// The numbers of the answer, however many of them there is room for; leaves
 /// in the buffer what the entry does.
 pub fn numbers(file: &[u8], tree: &mut [u32]) -> Numbers {
-    let row = match Row::read(file) {
+    numbers_in(Format::current(), file, tree)
+}
+
+/// The same if files of this format were read.
+pub fn numbers_in(format: Format, file: &[u8], tree: &mut [u32]) -> Numbers {
+    let row = match format.read(file) {
         Ok(row) => row,
         Err(refusal) => return numbered(refusal, 0, NO_PART),
     };

@@ -205,9 +205,9 @@ fn assert_files(entry: Entry) {
         (with(FLAG_AT, 2), refused(2, 0)),
         (with(STANDARD_AT, 5), refused(3, 0)),
         // The length of the comma's record, behind the head and `int`.
-        (with(HEAD_LENGTH + 15, 13), refused(4, 11 + 15)),
+        (with(HEAD_LENGTH + 23, 21), refused(4, 11 + 23)),
         // The last word cut off.
-        (good[..good.len() - 1].to_vec(), refused(4, 11 + 15 + 12)),
+        (good[..good.len() - 1].to_vec(), refused(4, 11 + 23 + 20)),
     ];
     for (file, numbers) in files {
         assert_call(entry, &file, room(text), numbers, &[]);

@@ -6,14 +6,14 @@ use std::cell::OnceCell;
 use super::automaton::{Seen, matches, shortest, told_apart};
 use super::format::{self, Item, Rule};
 use crate::answer::{Answer, Refusal};
-use crate::format::{ANSWER_LENGTH, NODE_WIDTH, Row};
+use crate::format::{ANSWER_LENGTH, Format, NODE_WIDTH, Row};
 use crate::oracle;
 use crate::tree::{Node, NodeKind};
 
 /// The places of two rules, the earlier first.
 pub type Pair = (u32, u32);
 
-type Numbers = [u32; ANSWER_LENGTH];
+pub type Numbers = [u32; ANSWER_LENGTH];
 
 /// A good table; its pairs are found when they are first asked for.
 pub struct Table {
@@ -129,7 +129,10 @@ fn token(row: &Row, number: u32) -> Seen<'_> {
 
 /// As `type_name_match` of the proved library.
 pub fn type_name_match(file: &[u8], rules: &[u8], tree: &mut [u32], answer: &mut [u32]) -> u32 {
-    hand_out(match_numbers(file, rules, tree), answer)
+    hand_out(
+        match_numbers_in(Format::current(), file, rules, tree),
+        answer,
+    )
 }
 
 /// As `type_name_overlap` of the proved library.
@@ -162,8 +165,10 @@ pub fn hand_out<const N: usize>(numbers: [u32; N], answer: &mut [u32]) -> u32 {
     numbers[0]
 }
 
-fn match_numbers(file: &[u8], rules: &[u8], tree: &mut [u32]) -> Numbers {
-    let answer = oracle::answer(file, tree);
+/// The numbers of the answer to which rule wins, if files of this format were
+/// read; leaves in the buffer what the entry does.
+pub fn match_numbers_in(format: Format, file: &[u8], rules: &[u8], tree: &mut [u32]) -> Numbers {
+    let answer = oracle::answer_in(format, file, tree);
     if matches!(answer.refusal(), Some(1..=Refusal::SHORT_BUFFER)) {
         return answer.numbers();
     }
@@ -176,7 +181,7 @@ fn match_numbers(file: &[u8], rules: &[u8], tree: &mut [u32]) -> Numbers {
     let Answer::Accepted { nodes, steps } = answer else {
         return answer.numbers();
     };
-    let row = Row::read(file).expect("an accepted file");
+    let row = format.read(file).expect("an accepted file");
     if let Some(place) = table.winner(&top_level(&row, nodes, tree)) {
         return [0, nodes, steps, place as u32];
     }

@@ -70,7 +70,7 @@ pub fn row(head: Head, text: &str) -> Row {
             continue;
         }
         let (kind, length) = token(rest);
-        let span = at as u32..(at + length) as u32;
+        let span = at as u64..(at + length) as u64;
         row.push(kind, &rest[..length], span).unwrap();
         at += length;
     }

@@ -86,7 +86,7 @@ fn next(cursor: &mut Cursor) -> Result<Lexed, LexError> {
 /// Puts the tokens of a text into a row.
 pub fn push_all(row: &mut Row, tokens: &[Lexed]) -> Result<(), LexError> {
     for token in tokens {
-        let span = offset(token.span.start)..offset(token.span.end);
+        let span = token.span.start as Offset..token.span.end as Offset;
         let pushed = row.push(token.kind, &token.word, span);
         pushed.map_err(|error| LexError {
             message: match error {
@@ -109,9 +109,4 @@ pub fn spelling(kind: TokenKind) -> Option<&'static str> {
 pub fn spelled(text: &str) -> Vec<TokenKind> {
     let symbols = symbols::all().filter_map(|(symbol, kind)| (symbol == text).then_some(kind));
     symbols.chain(dotted::operator(text)).collect()
-}
-
-/// A text whose offsets do not fit has more tokens or longer words than a row may have; the reader tells.
-fn offset(at: usize) -> Offset {
-    Offset::try_from(at).unwrap_or(Offset::MAX)
 }

@@ -48,7 +48,7 @@ first true e r r′ = absurd (true≢false e)
 first false e r r′ = refl
 
 module _ (f : Format) (file : List ℕ) where
-  ends : (most at : ℕ) → length file ≤ at → tokens-from f file most at ≡ tokens [] at
+  pub ends : (most at : ℕ) → length file ≤ at → tokens-from f file most at ≡ tokens [] at
   unfolding tokens-from
   ends zero at p = refl
   ends (suc most) at p = rw (le-leb (length file) at p, tokens-from) refl
@@ -60,11 +60,11 @@ module _ (f : Format) (file : List ℕ) where
       first (leb (length file) at) (lt-leb (length file) at p) (after-record f file at (found f file at) (λ next. tokens-from f file most next)) (tokens [] at)
       ∙ ap (λ (t : TokenRecord). after-record f file at t (λ next. tokens-from f file most next)) e
 
-  begins-malformed : (most at : ℕ) → at < length file → found f file at ≡ Malformed → tokens-from f file (suc most) at ≡ malformed at
+  pub begins-malformed : (most at : ℕ) → at < length file → found f file at ≡ Malformed → tokens-from f file (suc most) at ≡ malformed at
   unfolding after-record
   begins-malformed most at p e = begins most at Malformed p e
 
-  begins-token : (most at k n : ℕ) → at < length file → found f file at ≡ Formed k n
+  pub begins-token : (most at k n : ℕ) → at < length file → found f file at ≡ Formed k n
       → tokens-from f file (suc most) at ≡ before-tokens (record { place = at; kind = k; word = word-at f file at }) (tokens-from f file most (at + n))
   unfolding after-record
   begins-token most at k n p e = begins most at (Formed k n) p e

@@ -33,7 +33,7 @@ bytes-long zero number = refl
 bytes-long (suc width) number = ap suc (bytes-long width (number / byte-values))
 
 -- What stands before the number does not matter.
-read-at : (width : ℕ) (file : List ℕ) (at : ℕ) → little-endian width file at ≡ little-endian width (drop at file) 0
+pub read-at : (width : ℕ) (file : List ℕ) (at : ℕ) → little-endian width file at ≡ little-endian width (drop at file) 0
 unfolding little-endian
 read-at zero file at = refl
 read-at (suc width) file at =

@@ -111,16 +111,16 @@ NoLists r =
 
 -- The length of a token's record.
 abbrev record-length : Token → ℕ
-record-length t = 12 + length (t .word)
+record-length t = 20 + length (t .word)
 
 -- The records of a row's tokens; spans are 0.
 abbrev records-of : List Token → List ℕ
 records-of [] = []
-records-of (t ∷ ts) = record-length t ∷ 0 ∷ t .kind ∷ 0 ∷ replicate 8 0 ++ t .word ++ records-of ts
+records-of (t ∷ ts) = record-length t ∷ 0 ∷ t .kind ∷ 0 ∷ replicate 16 0 ++ t .word ++ records-of ts
 
 -- The file of a row, with allowance 255.
 abbrev file-of : (language standard flag : ℕ) → List Token → List ℕ
-file-of language standard flag ts = 11 ∷ 0 ∷ 0 ∷ 1 ∷ language ∷ standard ∷ flag ∷ 255 ∷ 0 ∷ 0 ∷ 0 ∷ records-of ts
+file-of language standard flag ts = 11 ∷ 0 ∷ 5 ∷ 1 ∷ language ∷ standard ∷ flag ∷ 255 ∷ 0 ∷ 0 ∷ 0 ∷ records-of ts
 
 -- The row that is read from records beginning at a byte offset.
 abbrev tokens-from : (at : ℕ) → List Token → List RowToken

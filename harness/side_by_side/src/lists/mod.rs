@@ -2,7 +2,7 @@
 
 use std::process::ExitCode;
 
-use harness::format::{NUMBERS_PER_TOKEN, Row};
+use harness::format::{Format, NUMBERS_PER_TOKEN, Row};
 use harness::generate::random::Random;
 use harness::generate::{Case, dressed, exhaustive, malformed};
 use harness::lists::generate::list;
@@ -77,7 +77,7 @@ impl Run {
         }
         if (1..=malformed::LONGEST).contains(&row.tokens.len()) && self.random.one_in(4) {
             let mut file = row.write();
-            malformed::damage(&mut self.random, &mut file);
+            malformed::damage(&mut self.random, Format::current(), &mut file);
             self.read(&Case { file, tree_len });
         }
     }

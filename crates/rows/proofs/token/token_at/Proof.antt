@@ -2,7 +2,7 @@
 use native.Mathlib.Omega.{arith}
 use mathlib.Core.Path.{_∙_, sym, refl}
 use mathlib.Core.Bool.{true, false}
-use Rattle.rows.specs.Records.{length-at, kind-at, span-start-at, span-end-at}
+use Rattle.rows.specs.Records.{length-at, kind-at, span-at}
 use Rattle.rows.specs.Laws.Tokens.{cut-off, kind-too-great, span-reversed, by-length}
 use borrow.Author.Needs.{needs}
 use Rattle.rows.proofs.token.token_at.Statement.{statement}
@@ -10,10 +10,9 @@ use Rattle.rows.proofs.token.token_at.Tie as tie
 use Rattle.rows.proofs.token.token_at.Reads as reads
 use Rattle.rows.proofs.token.token_at.Lts as lts
 use Rattle.rows.proofs.bytes.two_bytes.Reads as two-bytes-reads
-use Rattle.rows.proofs.format.span_bytes.Reads as span-bytes-reads
 use Rattle.rows.proofs.format.token_length.Reads as token-length-reads
 use Rattle.rows.proofs.token.length_fits.Reads as length-fits-reads
-use Rattle.rows.proofs.token.span_number.Reads as span-number-reads
+use Rattle.rows.proofs.token.span.Reads as span-reads
 
 token-length-requires : tie.Need-token-length-requires
 token-length-requires c κs = search needs
@@ -40,42 +39,30 @@ returns-3 : tie.Need-returns-3
 unfolding kind-at
 returns-3 c = kind-too-great (c .before .before .before .before .before .before .args .format) (c .before .before .before .before .before .before .args .file .now) (c .before .before .before .before .before .before .args .at) _ refl _ (c .before .two-bytes .ensures .0) (omega (arith, c .before .before .before .before .token-length .ensures .0)) (c .if3 .taken)
 
-add-start : tie.Need-add-start
-add-start c = search needs
-
-span-bytes-requires : tie.Need-span-bytes-requires
-span-bytes-requires c κs = search needs
-
-add-end : tie.Need-add-end
-add-end c = search needs
-
-span-number-requires : tie.Need-span-number-requires
-span-number-requires c κs = omega (arith, c .before .before .before .before .before .token-length .ensures .0, c .span-bytes .ensures .0)
-
-span-number-requires-2 : tie.Need-span-number-requires-2
-span-number-requires-2 c κs = omega (arith, c .before .before .before .before .before .before .token-length .ensures .0, c .before .span-bytes .ensures .0)
+span-requires : tie.Need-span-requires
+span-requires c κs = (omega (arith, c .before .before .before .before .token-length .ensures .0))
 
 returns-4 : tie.Need-returns-4
-unfolding kind-at span-start-at span-end-at
-returns-4 c = span-reversed (c .before .before .before .before .before .before .before .before .before .before .args .format) (c .before .before .before .before .before .before .before .before .before .before .args .file .now) (c .before .before .before .before .before .before .before .before .before .before .args .at) _ refl _ (c .before .before .before .before .before .two-bytes .ensures .0) (omega (arith, c .before .before .before .before .before .before .before .before .token-length .ensures .0)) (c .before .before .before .before .if3 .left) (rw (c .before .before .span-number .ensures, c .before .span-number2 .ensures, c .before .before .before .span-bytes .ensures .0) at (c .if4 .taken))
+unfolding kind-at span-at
+returns-4 c = span-reversed (c .before .before .before .before .before .before .before .before .before .args .format) (c .before .before .before .before .before .before .before .before .before .args .file .now) (c .before .before .before .before .before .before .before .before .before .args .at) _ refl _ (c .before .before .before .before .two-bytes .ensures .0) (omega (arith, c .before .before .before .before .before .before .before .token-length .ensures .0)) (c .before .before .before .if3 .left) (rw (c .before .before .span .ensures) at (c .if4 .taken))
 
 two-bytes-requires-2 : tie.Need-two-bytes-requires-2
 two-bytes-requires-2 c κs = search needs
 
 length-fits-requires : tie.Need-length-fits-requires
 unfolding kind-at length-at
-length-fits-requires c κs = ((omega (arith, c .before .before .before .before .before .before .before .before .before .token-length .ensures .0)), c .before .before .before .before .before .before .two-bytes .ensures .0, c .two-bytes2 .ensures .0)
+length-fits-requires c κs = ((omega (arith, c .before .before .before .before .before .before .before .before .token-length .ensures .0)), c .before .before .before .before .before .two-bytes .ensures .0, c .two-bytes2 .ensures .0)
 
-cast-t14 : tie.Need-cast-t14
-cast-t14 c = search needs
+cast-t12 : tie.Need-cast-t12
+cast-t12 c = search needs
 
 returns-5 : tie.Need-returns-5
-unfolding kind-at length-at span-start-at span-end-at
-returns-5 c = by-length (c .before .before .before .before .before .before .before .before .before .before .before .before .before .args .format) (c .before .before .before .before .before .before .before .before .before .before .before .before .before .args .file .now) (c .before .before .before .before .before .before .before .before .before .before .before .before .before .args .at) _ (c .before .before .two-bytes2 .ensures .0) _ (c .before .before .before .before .before .before .before .before .two-bytes .ensures .0) (omega (arith, c .before .before .before .before .before .before .before .before .before .before .before .token-length .ensures .0)) (c .before .before .before .before .before .before .before .if3 .left) (rw (c .before .before .before .before .before .span-number .ensures, c .before .before .before .before .span-number2 .ensures, c .before .before .before .before .before .before .span-bytes .ensures .0) at (c .before .before .before .if4 .left)) true (sym (c .if5 .taken) ∙ c .before .length-fits .ensures)
+unfolding kind-at length-at span-at
+returns-5 c = by-length (c .before .before .before .before .before .before .before .before .before .before .before .before .args .format) (c .before .before .before .before .before .before .before .before .before .before .before .before .args .file .now) (c .before .before .before .before .before .before .before .before .before .before .before .before .args .at) _ (c .before .before .two-bytes2 .ensures .0) _ (c .before .before .before .before .before .before .before .two-bytes .ensures .0) (omega (arith, c .before .before .before .before .before .before .before .before .before .before .token-length .ensures .0)) (c .before .before .before .before .before .before .if3 .left) (rw (c .before .before .before .before .before .span .ensures) at (c .before .before .before .if4 .left)) true (sym (c .if5 .taken) ∙ c .before .length-fits .ensures)
 
 returns-6 : tie.Need-returns-6
-unfolding kind-at length-at span-start-at span-end-at
-returns-6 c = by-length (c .before .before .before .before .before .before .before .before .before .before .before .before .before .args .format) (c .before .before .before .before .before .before .before .before .before .before .before .before .before .args .file .now) (c .before .before .before .before .before .before .before .before .before .before .before .before .before .args .at) _ (c .before .before .two-bytes2 .ensures .0) _ (c .before .before .before .before .before .before .before .before .two-bytes .ensures .0) (omega (arith, c .before .before .before .before .before .before .before .before .before .before .before .token-length .ensures .0)) (c .before .before .before .before .before .before .before .if3 .left) (rw (c .before .before .before .before .before .span-number .ensures, c .before .before .before .before .span-number2 .ensures, c .before .before .before .before .before .before .span-bytes .ensures .0) at (c .before .before .before .if4 .left)) false (sym (c .if5 .left) ∙ c .before .length-fits .ensures)
+unfolding kind-at length-at span-at
+returns-6 c = by-length (c .before .before .before .before .before .before .before .before .before .before .before .before .args .format) (c .before .before .before .before .before .before .before .before .before .before .before .before .args .file .now) (c .before .before .before .before .before .before .before .before .before .before .before .before .args .at) _ (c .before .before .two-bytes2 .ensures .0) _ (c .before .before .before .before .before .before .before .two-bytes .ensures .0) (omega (arith, c .before .before .before .before .before .before .before .before .before .before .token-length .ensures .0)) (c .before .before .before .before .before .before .if3 .left) (rw (c .before .before .before .before .before .span .ensures) at (c .before .before .before .if4 .left)) false (sym (c .if5 .left) ∙ c .before .length-fits .ensures)
 
 pub token-at-spec : {M : Type 1} → statement M
 token-at-spec =
@@ -89,14 +76,10 @@ token-at-spec =
     two-bytes-requires
     cast-if3
     returns-3
-    add-start
-    span-bytes-requires
-    add-end
-    span-number-requires
-    span-number-requires-2
+    span-requires
     returns-4
     two-bytes-requires-2
     length-fits-requires
-    cast-t14
+    cast-t12
     returns-5
     returns-6)

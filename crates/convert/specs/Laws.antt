@@ -1,0 +1,12 @@
+pub mod Stand
+pub mod OneRecord
+pub mod Written
+pub mod Back
+pub mod Puts
+pub mod Reads
+pub mod Sizes
+pub mod CheckLoop
+pub mod WriteLoop
+pub mod Entries
+pub mod SameAnswers
+pub mod Promised

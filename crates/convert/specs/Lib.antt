@@ -1,0 +1,10 @@
+pub mod Bytes
+pub mod Fields
+pub mod Conversions
+pub mod AnswerNumbers
+pub mod SameRow
+pub mod Promises
+pub mod ConvertSays
+pub mod Laws
+pub mod Theorems
+pub mod Examples
