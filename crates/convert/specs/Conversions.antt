@@ -7,7 +7,6 @@ use lib.ListN.{length, drop}
 use lib.Dec.{leb, ltb}
 use Rattle.rows.specs.Notation.{if_then_else_}
 use Rattle.rows.specs.Format.{format, old-format}
-use Rattle.rows.specs.declared.answer.TypeNameError.{TypeNameError}
 use Rattle.rows.specs.declared.answer.TypeNameError.the-variants.{FileTooLong, ShortBuffer, OffsetOver32Bits}
 use Rattle.type_name.specs.FileRow.{Outcome, untouched, passes, on-pass}
 use Rattle.convert.specs.Fields.{TokenFields, Fields, fields-of, file-bytes}

@@ -1,19 +1,18 @@
 -- Computed examples of this crate's definitions, worked out from document 02 by hand, so that a wrong edit of one is refused here.
 -- Assumes nothing.
-use Prim.Native.Nat.{ℕ, _+_, _^_}
+use Prim.Native.Nat.{ℕ, _+_}
 use mathlib.Core.Path.{_≡_, refl}
-use mathlib.Core.Bool.{true, false}
 use mathlib.Core.List.{List, [], _∷_, _++_, map}
 use lib.ListN.{length, replicate}
-use Rattle.rows.specs.Format.{format, old-format, declared, meant, stands-for}
+use Rattle.rows.specs.Format.{declared, meant, stands-for}
 use Rattle.rows.specs.Records.{little-endian, head, head-formed, head-with, records-from, to-end, tokens-from, after-record, before-tokens, found, well-formed, length-fits, word-fits, word-at, span-start-at, span-end-at, kind-at, length-at, in-range}
 use Rattle.rows.specs.Words.{bytes}
 use Rattle.rows.specs.declared.answer.Answer.the-variants as Answer
 use Rattle.text.specs.Text.{little-endian-bytes}
-use Rattle.type_name.specs.FileRow.{Outcome, untouched, passes, on-pass, head-read, row-read}
+use Rattle.type_name.specs.FileRow.{Outcome, untouched, passes}
 use Rattle.type_name.specs.AnswerNumbers.{answer-numbers}
-use Rattle.convert.specs.Fields.{TokenFields, Fields, token-fields, fields-with, fields-of, token-bytes, records-bytes, head-bytes, file-bytes}
-use Rattle.convert.specs.Conversions.{widened, over-32-bits, old-form, narrowed, with-output, widen-outcome, narrow-outcome, convert-answer, output-in}
+use Rattle.convert.specs.Fields.{Fields}
+use Rattle.convert.specs.Conversions.{old-form, widen-outcome, narrow-outcome, convert-answer, output-in}
 use Rattle.convert.specs.AnswerNumbers.{convert-numbers}
 
 -- Four bytes that are 0.

@@ -10,3 +10,4 @@ pub mod WriteLoop
 pub mod Entries
 pub mod SameAnswers
 pub mod Promised
+pub mod Converted

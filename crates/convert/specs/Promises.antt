@@ -7,12 +7,12 @@ use mathlib.Core.List.{List, [], _∷_}
 use lib.ListN.{length}
 use Rattle.rows.specs.Format.{format, old-format}
 use Rattle.rows.specs.declared.answer.TypeNameError.the-variants.{FileTooLong, ShortBuffer, OffsetOver32Bits}
-use Rattle.type_name.specs.FileRow.{file-row, entry-outcome}
+use Rattle.type_name.specs.FileRow.{passes, file-row, entry-outcome}
 use Rattle.type_name.specs.Answers.{row-answer, answer-in, answer, buffer-in, final-buffer}
 use Rattle.rule_answers.specs.MatchAnswers.{row-match, match-in, match-answer, match-buffer-in, match-buffer}
 use Rattle.type_list.specs.ListAnswers.{row-parts-answer, list-answer-in, list-answer, list-buffer-in, list-buffer}
-use Rattle.convert.specs.Fields.{TokenFields, Fields, file-bytes}
-use Rattle.convert.specs.Conversions.{numbers-32, convert-answer, narrow-outcome}
+use Rattle.convert.specs.Fields.{TokenFields, Fields, fields-of, file-bytes}
+use Rattle.convert.specs.Conversions.{numbers-32, widened}
 use Rattle.convert.specs.SameRow.{Alike}
 use Rattle.convert.specs.declared.entry.ConvertAnswer.{ConvertAnswer}
 use Rattle.convert.specs.declared.entry.ConvertAnswer.the-variants.{Converted, Refused}
@@ -39,6 +39,14 @@ pub record SameFields (c back : Fields) : Type 0 where
   pub same-flag : back .flag ≡ c .flag
   pub same-allowance : back .allowance ≡ c .allowance
   pub same-tokens : back .tokens ≡ c .tokens
+
+-- A new file that was narrowed and is widened again.
+pub record WidenedBack (file old : List ℕ) : Type 0 where
+  pub was : Fields
+  pub were : fields-of format file ≡ passes was
+  pub back : Fields
+  pub is : widened old ≡ passes (file-bytes format back)
+  pub same-fields : SameFields was back
 
 -- "7 offset over 32 bits": some span's end is 2^32 or more.
 abbrev pub SomeEndOver : List TokenFields → Type 0

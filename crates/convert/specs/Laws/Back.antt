@@ -7,8 +7,7 @@ use mathlib.Core.List.{List, [], _∷_, _++_, map}
 use mir.Facts.{and-yes}
 use native.Mathlib.Omega.{arith}
 use native.Mathlib.Nat.{add-mul-div-left, add-mul-mod-self-left, mod-eq-of-lt, div-eq-of-lt, pow-succ'}
-use native.Mathlib.Numerals.{add-one}
-use lib.ListN.{length, getD, take, drop, length-append, length-drop, drop-of-length-le, take-append-drop}
+use lib.ListN.{length, getD, take, drop, length-drop, drop-of-length-le, take-append-drop}
 use lib.Seq.{drop-drop, drop-cons, take-add}
 use lib.Dec.{T, leb, ltb, eqb, leb→le, nltb→le, eqb→eq}
 use Rattle.rows.specs.Notation.{if_then_else_}
@@ -26,7 +25,7 @@ use Rattle.rows.specs.Laws.Tokens.{formed-fits}
 use Rattle.text.specs.Text.{little-endian-bytes}
 use Rattle.text.specs.Laws.Records.{read-at}
 use Rattle.convert.specs.Bytes.{AllBytes}
-use Rattle.convert.specs.Fields.{TokenFields, Fields, token-fields, fields-with, token-bytes, records-bytes, head-bytes, file-bytes}
+use Rattle.convert.specs.Fields.{token-fields, fields-with, token-bytes, records-bytes, head-bytes, file-bytes}
 use Rattle.convert.specs.Laws.Stand.{Stand, StandsAt}
 use Rattle.convert.specs.Laws.OneRecord.{word-long}
 

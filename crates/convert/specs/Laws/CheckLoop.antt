@@ -1,9 +1,9 @@
 -- The loop that checks a file's records: what is left of them decides, with what was counted before.
 -- Assumes nothing.
-use Prim.Native.Nat.{ℕ, zero, suc, _+_, _-_, _≤_, _<_}
-use mathlib.Core.Path.{_≡_, refl, sym, ap, _∙_}
+use Prim.Native.Nat.{ℕ, suc, _+_, _-_, _≤_, _<_}
+use mathlib.Core.Path.{_≡_, refl, sym, _∙_}
 use mathlib.Core.Bool.{Bool, true, false, not, _&&_, _||_}
-use mathlib.Core.List.{List, [], _∷_, map}
+use mathlib.Core.List.{List, map}
 use native.Mathlib.Omega.{arith}
 use native.Mathlib.Nat.{zero-add}
 use borrow.Author.Tests.{le-leb, lt-leb, lt-ltb, le-ltb, leb-true, leb-false}
@@ -17,13 +17,12 @@ use Rattle.rows.specs.declared.head.FileHead.{FileHead}
 use Rattle.rows.specs.declared.head.FileHead.the-variants as FileHead
 use Rattle.rows.specs.declared.head.Head.{Head}
 use Rattle.rows.specs.declared.token.TokenRecord.the-variants.{Formed, Malformed}
-use Rattle.rows.specs.Records.{RowToken, Tokens, malformed, tokens, before-tokens, Row, row, refused, head, found, kind-at, span-end-at, tokens-from, to-end, records-from}
+use Rattle.rows.specs.Records.{Tokens, malformed, tokens, before-tokens, row, refused, head, found, span-end-at, tokens-from, to-end, records-from}
 use Rattle.rows.specs.Laws.Tests.{and-true}
-use Rattle.rows.specs.Laws.Tokens.{formed-fits}
 use Rattle.rows.specs.Laws.RowFacts.{token-there}
 use Rattle.rows.specs.Laws.RowLoop.{ends, begins-token, begins-malformed}
-use Rattle.type_name.specs.FileRow.{Outcome, untouched, passes, on-pass, head-read, row-read}
-use Rattle.convert.specs.Fields.{TokenFields, Fields, token-fields, fields-with, fields-of}
+use Rattle.type_name.specs.FileRow.{passes, on-pass, head-read, row-read}
+use Rattle.convert.specs.Fields.{token-fields, fields-with, fields-of}
 use Rattle.convert.specs.Conversions.{numbers-32, over-32-bits}
 use Rattle.convert.specs.ConvertSays.{checked-in, row-fields}
 use Rattle.convert.specs.declared.check.Checked.{Checked}

@@ -1,27 +1,24 @@
 -- The two conversions from what a check tells of their file.
 -- Assumes nothing.
-use Prim.Native.Nat.{ℕ, _+_, _*_, _-_, _≤_, _<_, _^_}
-use mathlib.Core.Path.{_≡_, refl, sym, ap, _∙_}
+use Prim.Native.Nat.{ℕ, _+_, _*_, _-_, _≤_, _<_}
+use mathlib.Core.Path.{_≡_, refl, sym, _∙_}
 use mathlib.Core.Bool.{Bool, true, false, not}
-use mathlib.Core.List.{List, map}
+use mathlib.Core.List.{List}
 use native.Mathlib.Omega.{arith}
 use borrow.Author.Tests.{lt-ltb, le-ltb}
 use lib.ListN.{length, length-map}
-use Rattle.rows.specs.Notation.{if_then_else_}
 use Rattle.rows.specs.Format.{format, old-format, head-length, most-tokens, token-length}
 use Rattle.rows.specs.declared.format.Format.{Format}
 use Rattle.rows.specs.declared.answer.TypeNameError.{TypeNameError}
 use Rattle.rows.specs.declared.answer.TypeNameError.the-variants.{FileTooLong, OffsetOver32Bits}
-use Rattle.rows.specs.Records.{RowToken}
 use Rattle.rows.specs.Laws.RowFacts.{few-tokens}
 use Rattle.type_name.specs.FileRow.{Outcome, untouched, passes, on-pass}
-use Rattle.convert.specs.Fields.{TokenFields, Fields, token-fields, fields-with, fields-of, file-bytes}
+use Rattle.convert.specs.Fields.{Fields, token-fields, fields-with, fields-of, file-bytes}
 use Rattle.convert.specs.Conversions.{widened, over-32-bits, old-form, narrowed, with-output, widen-outcome, narrow-outcome, convert-answer, output-in}
-use Rattle.convert.specs.ConvertSays.{Counted, IsSound, bytes-in, checked-in}
-use Rattle.convert.specs.Laws.Reads.{Read, read-of, SoundTold, refusal-told, sound-told}
+use Rattle.convert.specs.ConvertSays.{Counted, bytes-in, checked-in}
+use Rattle.convert.specs.Laws.Reads.{read-of, SoundTold, refusal-told, sound-told}
 use Rattle.convert.specs.Laws.Sizes.{words-long, file-long, stand-long}
-use Rattle.convert.specs.declared.entry.ConvertAnswer.{ConvertAnswer}
-use Rattle.convert.specs.declared.entry.ConvertAnswer.the-variants.{Converted, Refused}
+use Rattle.convert.specs.declared.entry.ConvertAnswer.the-variants.{Refused}
 use Rattle.convert.specs.declared.check.Checked.the-variants as Checked
 
 -- ---- how long a sound file is, and how many tokens it has

@@ -1,15 +1,15 @@
 -- One token record: what a well-formed one says of its fields, and that its bytes are read back as those fields.
 -- Assumes nothing.
-use Prim.Native.Nat.{ℕ, zero, suc, _+_, _*_, _-_, _^_, _≤_, _<_}
+use Prim.Native.Nat.{ℕ, _+_, _-_, _^_, _≤_, _<_}
 use mathlib.Core.Path.{_≡_, refl, sym, ap, _∙_}
 use mathlib.Core.Bool.{Bool, true, false, _&&_}
-use mathlib.Core.List.{List, [], _∷_, _++_, append-assoc}
+use mathlib.Core.List.{List, _++_, append-assoc}
 use mir.Facts.{and-yes}
 use native.Mathlib.Omega.{arith}
-use borrow.Author.Tests.{lt-ltb, le-leb, eq-eqb, ne-eqb, eqb-true, eqb-false}
-use lib.ListN.{length, take, drop, length-append, length-drop}
+use borrow.Author.Tests.{lt-ltb, le-leb, eq-eqb, eqb-true, eqb-false}
+use lib.ListN.{length, drop, length-append, length-drop}
 use lib.Seq.{length-take-le, take-at, drop-at, drop-drop}
-use lib.Dec.{T, leb, ltb, eqb, leb→le, ltb→lt, eqb→eq}
+use lib.Dec.{T, leb, ltb, eqb, leb→le, ltb→lt}
 use Rattle.rows.specs.Notation.{if_then_else_}
 use Rattle.rows.specs.Kinds.{Identifier, End}
 use Rattle.rows.specs.Format.{short-bytes, at-kind, at-span, bytes-of, span-bytes, token-length, longest-word}
@@ -17,8 +17,7 @@ use Rattle.rows.specs.declared.format.Format.{Format}
 use Rattle.rows.specs.declared.format.SpanWidth.{SpanWidth}
 use Rattle.rows.specs.declared.format.SpanWidth.the-variants.{Four, Eight}
 use Rattle.rows.specs.Records.{byte-values, little-endian, in-range, length-at, kind-at, span-start-at, span-end-at, word-at, word-fits, length-fits, well-formed, found}
-use Rattle.rows.specs.Laws.Tests.{by-if}
-use Rattle.rows.specs.Laws.Tokens.{Fits, formed-fits, by-length}
+use Rattle.rows.specs.Laws.Tokens.{formed-fits, by-length}
 use Rattle.rows.specs.declared.token.TokenRecord.{TokenRecord}
 use Rattle.rows.specs.declared.token.TokenRecord.the-variants.{Formed, Malformed}
 use Rattle.text.specs.Text.{little-endian-bytes}

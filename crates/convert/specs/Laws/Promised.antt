@@ -2,11 +2,11 @@
 -- Assumes nothing.
 use Prim.Native.Nat.{ℕ, _+_, _*_, _-_, _^_, _≤_, _<_}
 use mathlib.Core.Path.{_≡_, refl, sym, ap, subst, _∙_}
-use mathlib.Core.Bool.{Bool, true, false, not, _||_, true≢false}
-use mathlib.Core.Logic.{_⊎_, inl, inr}
+use mathlib.Core.Bool.{Bool, true, false, _||_, true≢false}
+use mathlib.Core.Logic.{inl, inr}
 use mathlib.Core.List.{List, [], _∷_, map}
 use native.Mathlib.Omega.{arith}
-use borrow.Author.Tests.{lt-ltb, le-ltb, lt-leb, le-leb, leb-true, leb-false, ltb-true, ltb-false}
+use borrow.Author.Tests.{lt-ltb, le-ltb, lt-leb, le-leb, leb-true, leb-false, ltb-true}
 use lib.ListN.{length, getD}
 use lib.Dec.{leb, ltb}
 use Rattle.rows.specs.Notation.{if_then_else_}
@@ -17,21 +17,21 @@ use Rattle.rows.specs.declared.answer.TypeNameError.the-variants.{FileTooLong, 
 use Rattle.rows.specs.declared.head.Head.{Head}
 use Rattle.rows.specs.declared.head.FileHead.the-variants.{Formed}
 use Rattle.rows.specs.declared.head.Meaning.the-variants.{Means}
-use Rattle.rows.specs.Records.{byte-values, RowToken, Row, row, head, kind-at, length-at, span-end-at, records-from}
+use Rattle.rows.specs.Records.{byte-values, RowToken, row, head, kind-at, length-at, span-end-at, records-from}
 use Rattle.rows.specs.Laws.Tokens.{formed-fits}
 use Rattle.reader.specs.Nodes.{numbers-per-token}
-use Rattle.type_name.specs.FileRow.{HeadRow, Outcome, untouched, passes, on-pass, head-read, row-read, with-room, file-row}
+use Rattle.type_name.specs.FileRow.{untouched, passes, on-pass, head-read, row-read, with-room, file-row}
 use Rattle.convert.specs.Bytes.{AllBytes}
 use Rattle.convert.specs.Fields.{TokenFields, Fields, token-fields, fields-with, fields-of, file-bytes}
 use Rattle.convert.specs.Conversions.{numbers-32, over-32-bits, old-form, with-output, narrowed, narrow-outcome, convert-answer}
-use Rattle.convert.specs.SameRow.{SameTokens, SameRow, Alike}
+use Rattle.convert.specs.SameRow.{SameTokens, Alike}
 use Rattle.convert.specs.Promises.{SomeEndOver, NarrowSays}
 use Rattle.convert.specs.Laws.Stand.{Stand, StandsAt}
 use Rattle.convert.specs.Laws.OneRecord.{TokenFits, is-ordered, is-worded}
 use Rattle.convert.specs.Laws.Written.{AllFit, FieldsFit, placed, head-meant, written-head, written-row, written-back}
 use Rattle.convert.specs.Laws.Back.{HeadIs, number-small, file-back}
-use Rattle.convert.specs.Laws.Reads.{Read, read-of}
-use Rattle.convert.specs.Laws.Sizes.{words-long, file-long}
+use Rattle.convert.specs.Laws.Reads.{read-of}
+use Rattle.convert.specs.Laws.Sizes.{file-long}
 use Rattle.convert.specs.Laws.Entries.{sound-long, sound-few, sound-short}
 use Rattle.convert.specs.Laws.SameAnswers.{same-many}
 use Rattle.convert.specs.declared.entry.ConvertAnswer.{ConvertAnswer}

@@ -1,7 +1,7 @@
 -- The parts of a token record, put one behind the other.
 -- Assumes nothing.
 use Prim.Native.Nat.{ℕ, _+_, _-_}
-use mathlib.Core.Path.{_≡_, refl, ap, _∙_}
+use mathlib.Core.Path.{_≡_, refl, _∙_}
 use mathlib.Core.List.{List}
 use lib.ListN.{length, take, drop}
 use Rattle.rows.specs.Format.{short-bytes, span-bytes, token-length}

@@ -1,7 +1,7 @@
 -- The head and the row behind a sound file's fields, and what a check tells of them.
 -- Assumes nothing.
 use Prim.Native.Nat.{ℕ}
-use mathlib.Core.Path.{_≡_, refl, sym, ap, subst, _∙_}
+use mathlib.Core.Path.{_≡_, refl, sym, ap}
 use mathlib.Core.Bool.{Bool, true, not}
 use mathlib.Core.List.{List}
 use native.Mathlib.Omega.{arith}
@@ -14,7 +14,7 @@ use Rattle.rows.specs.declared.head.FileHead.{FileHead}
 use Rattle.rows.specs.declared.head.FileHead.the-variants as FileHead
 use Rattle.rows.specs.Records.{RowToken, Row, refused, row, head, records-from}
 use Rattle.type_name.specs.FileRow.{Outcome, untouched, passes, on-pass, head-read, row-read}
-use Rattle.convert.specs.Fields.{TokenFields, Fields, fields-with, fields-of}
+use Rattle.convert.specs.Fields.{Fields, fields-with, fields-of}
 use Rattle.convert.specs.Conversions.{over-32-bits}
 use Rattle.convert.specs.ConvertSays.{checked-in}
 use Rattle.convert.specs.Laws.Stand.{Stand, row-stands}

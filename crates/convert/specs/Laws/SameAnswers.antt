@@ -1,21 +1,20 @@
 -- No entry looks at the places of a row's tokens: the same head and row get the same answer.
 -- Assumes nothing.
-use Prim.Native.Nat.{ℕ, zero, suc, _*_, _-_}
+use Prim.Native.Nat.{ℕ, zero, suc, _-_}
 use mathlib.Core.Path.{_≡_, refl, ap}
 use mathlib.Core.Bool.{Bool, true, false}
 use mathlib.Core.List.{List, [], _∷_}
 use lib.ListN.{length, getD, take, drop}
 use lib.Dec.{ltb}
 use Rattle.rows.specs.Notation.{if_then_else_}
-use Rattle.rows.specs.Words.{word-number}
 use Rattle.rows.specs.Records.{RowToken, kinds-of, words-of}
 use Rattle.reader.specs.Nodes.{NodeKind, T-node, G-node, B-node, L-node, A-node, Nodes, none, node}
 use Rattle.type_name.specs.FileRow.{HeadRow, Outcome, untouched, passes, on-pass}
 use Rattle.type_name.specs.Answers.{RowAnswer, accepted, refused, answerOf, row-answer}
-use Rattle.rules.specs.Rules.{Rule, winner}
+use Rattle.rules.specs.Rules.{Rule}
 use Rattle.rules.specs.Seen.{token-seen, node-seen, seen, no-row-token}
 use Rattle.rules.specs.RuleTable.{TableFound, no-table, a-table, table-of}
-use Rattle.rule_answers.specs.MatchAnswers.{by-winner, with-winner, by-table, row-match}
+use Rattle.rule_answers.specs.MatchAnswers.{with-winner, by-table, row-match}
 use Rattle.type_list.specs.Parts.{part-length, parts-in, parts}
 use Rattle.type_list.specs.ListAnswers.{on-part, parts-answer, row-parts-answer}
 use Rattle.convert.specs.SameRow.{SameTokens, SameRow, Alike}

@@ -1,18 +1,18 @@
 -- How long a file is in a format, by its tokens and their words.
 -- Assumes nothing.
-use Prim.Native.Nat.{ℕ, suc, _+_, _*_, _-_, _≤_}
-use mathlib.Core.Path.{_≡_, refl, sym, ap, _∙_}
-use mathlib.Core.List.{List, [], _∷_, _++_, map}
+use Prim.Native.Nat.{ℕ, _+_, _*_, _-_}
+use mathlib.Core.Path.{_≡_, _∙_}
+use mathlib.Core.List.{List, [], _∷_, map}
 use native.Mathlib.Omega.{arith}
 use native.Mathlib.Nat.{mul-suc}
 use lib.ListN.{length, length-append}
 use Rattle.rows.specs.Format.{head-length, token-length}
 use Rattle.rows.specs.declared.format.Format.{Format}
-use Rattle.rows.specs.Records.{RowToken, kind-at, length-at, word-at}
+use Rattle.rows.specs.Records.{RowToken, kind-at, length-at}
 use Rattle.rows.specs.Laws.Tokens.{formed-fits}
 use Rattle.text.specs.Text.{little-endian-bytes}
-use Rattle.convert.specs.Fields.{TokenFields, Fields, token-fields, token-bytes, records-bytes, head-bytes, file-bytes}
-use Rattle.convert.specs.Laws.Stand.{Stand, StandsAt}
+use Rattle.convert.specs.Fields.{TokenFields, Fields, token-fields, token-bytes, records-bytes, file-bytes}
+use Rattle.convert.specs.Laws.Stand.{Stand}
 use Rattle.convert.specs.Laws.OneRecord.{token-long, word-long}
 
 -- The bytes of all words.

@@ -1,18 +1,17 @@
 -- Token records that stand one behind the other in a file: what the row of a file says of its bytes, and back.
 -- Assumes nothing.
-use Prim.Native.Nat.{ℕ, zero, suc, _+_, _≤_, _<_}
-use mathlib.Core.Path.{_≡_, refl, sym, ap, _∙_}
+use Prim.Native.Nat.{ℕ, zero, suc, _+_, _≤_}
+use mathlib.Core.Path.{_≡_, refl, ap, _∙_}
 use mathlib.Core.Bool.{Bool, true, false}
 use mathlib.Core.List.{List, [], _∷_}
 use native.Mathlib.Omega.{arith}
 use lib.ListN.{length}
-use lib.Dec.{T, leb, leb→le}
+use lib.Dec.{leb, leb→le}
 use Rattle.rows.specs.Laws.Tests.{by-if}
 use Rattle.rows.specs.Notation.{if_then_else_}
 use Rattle.rows.specs.declared.format.Format.{Format}
-use Rattle.rows.specs.Records.{RowToken, Tokens, malformed, tokens, before-tokens, Row, refused, row, found, word-at, kind-at, length-at, after-record, tokens-from, to-end, records-from}
-use Rattle.rows.specs.Laws.Tokens.{Fits, formed-fits}
-use Rattle.rows.specs.Laws.RowLoop.{ends, begins-token}
+use Rattle.rows.specs.Records.{RowToken, Tokens, malformed, tokens, before-tokens, Row, refused, row, found, kind-at, length-at, after-record, tokens-from, to-end, records-from}
+use Rattle.rows.specs.Laws.Tokens.{formed-fits}
 use Rattle.rows.specs.Laws.RowFacts.{token-there}
 use Rattle.rows.specs.declared.token.TokenRecord.{TokenRecord}
 use Rattle.rows.specs.declared.token.TokenRecord.the-variants.{Formed, Malformed}

@@ -1,28 +1,26 @@
 -- The loop that writes a file's records in another format.
 -- Assumes nothing.
 use Prim.Native.Nat.{ℕ, _+_, _-_, _≤_, _<_}
-use mathlib.Core.Path.{_≡_, refl, sym, ap, subst, _∙_}
+use mathlib.Core.Path.{_≡_, refl, sym, ap, _∙_}
 use mathlib.Core.List.{List, [], _∷_, _++_, map, append-assoc, append-nil}
 use native.Mathlib.Omega.{arith}
-use lib.ListN.{length, getD, drop, length-append}
+use lib.ListN.{length, getD, length-append}
 use borrow.Author.Tests.{lt-ltb, le-ltb}
-use Rattle.rows.specs.Notation.{if_then_else_}
 use Rattle.rows.specs.Format.{allowance-bytes, at-allowance, at-flag, at-language, at-standard, head-length, token-length}
 use Rattle.rows.specs.declared.format.Format.{Format}
 use Rattle.rows.specs.declared.answer.TypeNameError.the-variants.{ShortBuffer}
-use Rattle.rows.specs.Records.{RowToken, little-endian, kind-at, length-at, word-at}
+use Rattle.rows.specs.Records.{RowToken, little-endian, kind-at, length-at}
 use Rattle.rows.specs.Laws.Tokens.{formed-fits}
 use Rattle.rows.specs.Laws.RowFacts.{token-there}
 use Rattle.text.specs.Text.{Appended, little-endian-bytes}
 use Rattle.text.specs.Laws.Appending.{appended-none, appended-then, appended-as, appended-whole}
-use Rattle.type_name.specs.FileRow.{Outcome, untouched, passes}
-use Rattle.convert.specs.Fields.{TokenFields, Fields, token-fields, fields-with, fields-of, token-bytes, records-bytes, head-bytes, file-bytes}
+use Rattle.type_name.specs.FileRow.{passes}
+use Rattle.convert.specs.Fields.{Fields, token-fields, fields-with, fields-of, token-bytes, records-bytes, head-bytes, file-bytes}
 use Rattle.convert.specs.Conversions.{with-output, convert-answer, output-in}
 use Rattle.convert.specs.ConvertSays.{RecordReady, RecordsReady, FileReady, IsSound, bytes-in, fields-there, records-in}
 use Rattle.convert.specs.Laws.Stand.{Stand, StandsAt}
 use Rattle.convert.specs.Laws.OneRecord.{token-long}
-use Rattle.convert.specs.Laws.Reads.{Read, read-of}
-use Rattle.convert.specs.declared.entry.ConvertAnswer.{ConvertAnswer}
+use Rattle.convert.specs.Laws.Reads.{read-of}
 use Rattle.convert.specs.declared.entry.ConvertAnswer.the-variants.{Converted, Refused}
 
 module _ (from to : Format) (file output₀ : List ℕ) (begin : ℕ) where

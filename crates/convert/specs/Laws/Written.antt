@@ -1,29 +1,24 @@
 -- A file that is written from fields is read back as those fields.
 -- Assumes nothing.
-use Prim.Native.Nat.{ℕ, zero, suc, _+_, _*_, _-_, _^_, _≤_, _<_}
+use Prim.Native.Nat.{ℕ, zero, suc, _+_, _-_, _^_, _≤_, _<_}
 use mathlib.Core.Path.{_≡_, refl, sym, ap, _∙_}
-use mathlib.Core.Bool.{Bool, true, false, not}
-use mathlib.Core.List.{List, [], _∷_, _++_, map}
+use mathlib.Core.Bool.{true}
+use mathlib.Core.List.{List, [], _∷_, map}
 use native.Mathlib.Omega.{arith}
 use borrow.Author.Tests.{le-ltb, le-leb, eq-eqb}
-use lib.ListN.{length, drop, getD, length-append, length-drop, drop-of-length-le}
-use lib.Dec.{leb, ltb, eqb}
-use Rattle.rows.specs.Notation.{if_then_else_}
+use lib.ListN.{length, drop, length-drop}
 use Rattle.rows.specs.Format.{short-bytes, allowance-bytes, head-length, at-kind, at-allowance, token-length, most-tokens, meant}
 use Rattle.rows.specs.declared.format.Format.{Format}
 use Rattle.rows.specs.declared.head.Head.{Head}
-use Rattle.rows.specs.declared.head.Meaning.{Meaning}
-use Rattle.rows.specs.declared.head.Meaning.the-variants.{Means, Unknown}
-use Rattle.rows.specs.declared.head.FileHead.{FileHead}
-use Rattle.rows.specs.declared.head.FileHead.the-variants.{Formed, Refused}
-use Rattle.rows.specs.Records.{byte-values, little-endian, RowToken, Tokens, tokens, before-tokens, Row, row, head, head-formed, head-with, kind-at, length-at, word-at, tokens-from, to-end, records-from}
+use Rattle.rows.specs.declared.head.Meaning.the-variants.{Means}
+use Rattle.rows.specs.declared.head.FileHead.the-variants.{Formed}
+use Rattle.rows.specs.Records.{byte-values, little-endian, RowToken, tokens, before-tokens, row, head, head-formed, head-with, kind-at, length-at, tokens-from, to-end, records-from}
 use Rattle.rows.specs.Laws.Tokens.{formed-fits}
 use Rattle.rows.specs.Laws.RowLoop.{ends, begins-token}
 use Rattle.text.specs.Text.{little-endian-bytes}
-use Rattle.text.specs.Laws.Records.{bytes-long}
-use Rattle.type_name.specs.FileRow.{Outcome, untouched, passes, on-pass, head-read, row-read}
-use Rattle.convert.specs.Fields.{TokenFields, Fields, token-fields, fields-with, fields-of, token-bytes, records-bytes, head-bytes, file-bytes}
-use Rattle.convert.specs.Laws.Stand.{Stand, StandsAt}
+use Rattle.type_name.specs.FileRow.{passes, on-pass, head-read, row-read}
+use Rattle.convert.specs.Fields.{TokenFields, Fields, token-fields, fields-with, fields-of, token-bytes, records-bytes, file-bytes}
+use Rattle.convert.specs.Laws.Stand.{Stand}
 use Rattle.convert.specs.Laws.OneRecord.{TokenFits, token-long, next-part, number-there, written-length, written-kind, written-start, written-end, written-word, written-inside, written-found}
 
 -- ---- records that stand are a row
