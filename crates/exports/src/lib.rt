@@ -6,3 +6,4 @@ pub mod matching;
 pub mod numbers;
 pub mod overlap;
 pub mod read;
+pub mod template;
