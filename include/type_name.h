@@ -1,7 +1,8 @@
 /* Reads type names, one or a comma list of them: a file of token records in, trees of node records or a numbered refusal
- * out; says which rule of a table wins for a type name, and which rules overlap; and brings over files of the old format.
+ * out; counts the arguments of a tree's outer template; says which rule of a table wins for a type name, and which rules
+ * overlap; and brings over files of the old format.
  * docs/FORMAT.md describes the files, the tree and the refusals, with examples; examples/build.c, examples/list.c,
- * examples/rules.c and examples/convert.c are programs that use all of this. */
+ * examples/outer.c, examples/rules.c and examples/convert.c are programs that use all of this. */
 #ifndef TYPE_NAME_H
 #define TYPE_NAME_H
 
@@ -292,6 +293,33 @@ uint32_t type_name_read_list(const uint8_t *file, size_t file_len,
                              uint32_t *tree, size_t tree_len,
                              uint32_t *answer, size_t answer_len);
 
+/* ---- the outer template */
+
+/* Counts the arguments of the outer template of a tree: of the list that follows the word with which the tree begins.
+ *
+ * Returns how many there are, at least 1; or 0 if the tree does not begin with a word followed by a list. `A<b,c>` has 2,
+ * `A<B<c>>` has 1, `A` and `::A<b>` have none. No number is a refusal's, and nothing is written.
+ *
+ * `tree` (tree_len numbers) is what type_name_read or type_name_match left there for an accepted type name: the whole
+ * buffer, or its nodes alone, TYPE_NAME_NODE_WIDTH numbers each. Of what type_name_read_list left, the first part decides;
+ * for another part, hand in its nodes, which type_name_next_part below finds.
+ *
+ * For a first pass that wants no more than this it is cheap: it looks at the first two nodes and goes from argument to
+ * argument by their extents, past whatever stands below them. It never looks at a token number.
+ *
+ * Proved for every slice of numbers, of a tree or not and of any length:
+ *   - for an accepted tree the answer is the number counted from the full tree, and it stays whatever numbers stand outside
+ *     the first two nodes and the list's argument nodes. Behind a tree of one node no list may stand where the second node
+ *     would be; in the buffers named above none does;
+ *   - for all other numbers the answer is 0 unless they begin as such a tree does: a T of extent 1; an L of extent 2 or more
+ *     that ends within tree_len; and from there to the L's end nothing but A after A by their extents, each of 1 or more and
+ *     the last one ending with the L. Then it is the number of these A. A node of which tree_len cuts something off is past
+ *     the end.
+ *
+ * No contract covers what the caller sees to: `tree` points to tree_len numbers, is aligned as uint32_t is and not NULL, even
+ * where tree_len is 0 (type_name_outer_or_null below sees to this), and nobody writes it during the call. */
+uint32_t type_name_outer(const uint32_t *tree, size_t tree_len);
+
 /* ---- rule tables */
 
 /* Reads the `file_len` bytes at `file` as type_name_read does, and finds the first rule of the table `rules` (rules_len
@@ -396,6 +424,12 @@ static inline uint32_t type_name_read_list_or_null(const uint8_t *file, size_t f
     return type_name_read_list(file_len == 0 ? &no_byte : file, file_len,
                                tree_len == 0 ? &no_tree : tree, tree_len,
                                answer_len == 0 ? &no_answer : answer, answer_len);
+}
+
+static inline uint32_t type_name_outer_or_null(const uint32_t *tree, size_t tree_len)
+{
+    uint32_t no_tree = 0;
+    return type_name_outer(tree_len == 0 ? &no_tree : tree, tree_len);
 }
 
 static inline uint32_t type_name_match_or_null(const uint8_t *file, size_t file_len,

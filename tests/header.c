@@ -193,16 +193,16 @@ static void no_overlap(void)
 /* A row of one byte a token, `A` for every word; returns its length. */
 static size_t build_row(uint8_t *file, size_t room, const char *text)
 {
-    static const char spelled[] = "A<>(),[]";
+    static const char spelled[] = "A<>(),[]:";
     static const enum type_name_token_kind kinds[] = {
         TYPE_NAME_KIND_IDENTIFIER,   TYPE_NAME_KIND_LESS,  TYPE_NAME_KIND_GREATER,      TYPE_NAME_KIND_LEFT_PAREN,
         TYPE_NAME_KIND_RIGHT_PAREN,  TYPE_NAME_KIND_COMMA, TYPE_NAME_KIND_LEFT_BRACKET, TYPE_NAME_KIND_RIGHT_BRACKET,
-        TYPE_NAME_KIND_SHIFT_RIGHT,
+        TYPE_NAME_KIND_SCOPE,        TYPE_NAME_KIND_SHIFT_RIGHT,
     };
     size_t length = type_name_put_head(file, room, TYPE_NAME_LANGUAGE_CPP, TYPE_NAME_CPP17,
                                        TYPE_NAME_STRUCTURE_CHECK_OFF, 1000);
     for (; *text != 0; text++) {
-        /* `R` stands for `>>`. */
+        /* `:` stands for `::`, `R` for `>>`. */
         size_t kind = *text == 'R' ? sizeof spelled - 1 : (size_t)(strchr(spelled, *text) - spelled);
         length = type_name_put_token(file, room, length, kinds[kind], "A", 1, 0, 1);
     }
@@ -254,6 +254,74 @@ static void lists(void)
     CHECK(type_name_find_part(file, 0, 0) == 0 && type_name_find_part(file, 0, 1) == TYPE_NAME_NO_TOKEN);
     memset(file, 0, sizeof file);
     CHECK(type_name_find_part(file, sizeof file, 1) == TYPE_NAME_NO_TOKEN);
+}
+
+enum { TREE_ROOM = TYPE_NAME_NUMBERS_PER_TOKEN * ROOM / TYPE_NAME_TOKEN_LENGTH };
+
+/* Of the whole buffer, of its nodes alone and of each shorter slice: none where the list is cut off. */
+static void has_outer(const char *text, uint32_t arguments)
+{
+    uint8_t file[ROOM];
+    uint32_t tree[TREE_ROOM], answer[TYPE_NAME_ANSWER_LENGTH];
+    size_t length = build_row(file, sizeof file, text), room, needed;
+    CHECK(type_name_read(file, length, tree, TREE_ROOM, answer, 4) == 0);
+    CHECK(type_name_outer(tree, TREE_ROOM) == arguments);
+    CHECK(type_name_outer(tree, (size_t)TYPE_NAME_NODE_WIDTH * answer[1]) == arguments);
+    needed = arguments == 0 ? 0 : (size_t)TYPE_NAME_NODE_WIDTH * (1 + tree[TYPE_NAME_NODE_WIDTH + 2]);
+    for (room = 0; room <= TREE_ROOM; room++)
+        CHECK(type_name_outer(tree, room) == (room < needed ? 0 : arguments));
+}
+
+/* Nodes by kind and extent, with a token number that none has. */
+static uint32_t outer_of(const uint32_t (*nodes)[2], size_t count)
+{
+    uint32_t tree[TREE_ROOM];
+    size_t i;
+    for (i = 0; i < count; i++) {
+        tree[TYPE_NAME_NODE_WIDTH * i] = nodes[i][0];
+        tree[TYPE_NAME_NODE_WIDTH * i + 1] = UINT32_MAX;
+        tree[TYPE_NAME_NODE_WIDTH * i + 2] = nodes[i][1];
+    }
+    return type_name_outer(tree, TYPE_NAME_NODE_WIDTH * count);
+}
+
+static void outer_templates(void)
+{
+    static const uint32_t not_looked_at[][2] = {{0, 1}, {3, 4}, {4, 3}, {9, 9}, {9, 9}};
+    static const uint32_t past_list[][2] = {{0, 1}, {3, 3}, {4, 1}, {4, UINT32_MAX}};
+    static const uint32_t wide_word[][2] = {{0, 2}, {3, 2}, {4, 1}};
+    static const uint32_t bare_arguments[][2] = {{0, 1}, {3, 3}, {4, 1}, {4, 1}};
+    static const uint32_t no_extent[][2] = {{0, 1}, {3, 2}, {4, 0}};
+    static const uint32_t past_buffer[][2] = {{0, 1}, {3, UINT32_MAX}, {4, UINT32_MAX - 1}};
+    /* Three times 0x55555556 nodes are 2 in 32 bits. */
+    static const uint32_t wrapped[][2] = {{0, 1}, {3, 0x55555555}, {4, 0x55555554}};
+    uint8_t file[ROOM];
+    uint32_t tree[TREE_ROOM], answer[TYPE_NAME_LIST_ANSWER_LENGTH], next;
+    size_t length;
+    has_outer("A<A,A>", 2);
+    has_outer(":A<A>", 0);
+    has_outer("A", 0);
+    has_outer("A<A<AR", 1);
+    has_outer("A<A<A,A>,A,A>:A<A>", 3);
+    has_outer("A:A<A>", 0);
+    CHECK(outer_of(not_looked_at, 5) == 1);
+    CHECK(outer_of(past_list, 4) == 0);
+    CHECK(outer_of(wide_word, 3) == 0);
+    CHECK(outer_of(bare_arguments, 4) == 2);
+    CHECK(outer_of(no_extent, 3) == 0);
+    CHECK(outer_of(past_buffer, 3) == 0 && outer_of(wrapped, 3) == 0);
+    /* Of a list the first part decides, and each of the others if it is handed in. */
+    length = build_row(file, sizeof file, "A,A<A,A>,A<A>");
+    CHECK(type_name_read_list(file, length, tree, TREE_ROOM, answer, 5) == 0);
+    CHECK(type_name_outer(tree, TREE_ROOM) == 0);
+    next = type_name_next_part(tree, answer[1], 0);
+    CHECK(type_name_outer(tree + TYPE_NAME_NODE_WIDTH * next, TREE_ROOM - TYPE_NAME_NODE_WIDTH * next) == 2);
+    next = type_name_next_part(tree, answer[1], next);
+    CHECK(type_name_outer(tree + TYPE_NAME_NODE_WIDTH * next, TREE_ROOM - TYPE_NAME_NODE_WIDTH * next) == 1);
+    /* A refusal leaves zeros. */
+    length = build_row(file, sizeof file, "A<A");
+    CHECK(type_name_read(file, length, tree, TREE_ROOM, answer, 4) == TYPE_NAME_ERROR_UNCLOSED_ANGLE);
+    CHECK(type_name_outer(tree, TREE_ROOM) == 0);
 }
 
 /* `int` in C89 with the structure check and an allowance of 1,000, byte for byte: as it was, and as it is. */
@@ -312,6 +380,8 @@ static void conversions(void)
 static void no_pointers(void)
 {
     uint32_t answer[TYPE_NAME_ANSWER_LENGTH] = {9, 9, 9, 9};
+    static const uint32_t lane[] = {0, 0, 1, 3, 1, 3, 4, 2, 2, 0, 2, 1};
+    CHECK(type_name_outer_or_null(NULL, 0) == 0 && type_name_outer_or_null(lane, 12) == 1);
     CHECK(type_name_match_or_null(NULL, 0, NULL, 0, NULL, 0, NULL, 0) == TYPE_NAME_ERROR_INVALID_HEAD);
     CHECK(type_name_overlap_or_null(NULL, 0, 0, 0, NULL, 0, NULL, 0) == 0);
     CHECK(type_name_overlap_or_null(NULL, 0, 0, 0, NULL, 0, answer, 2) == 0);
@@ -337,6 +407,7 @@ int main(int count, char **arguments)
     items();
     no_overlap();
     lists();
+    outer_templates();
     conversions();
     no_pointers();
     snprintf(version, sizeof version, "%d.%d.%d", TYPE_NAME_VERSION_MAJOR, TYPE_NAME_VERSION_MINOR,

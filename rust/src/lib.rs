@@ -1,9 +1,10 @@
 //! Reads the name of a C, C++ or Fortran type, given as tokens, into a tree, or refuses it with one number that says why.
 //!
 //! A lexer's tokens become a row file with [`Row`]; [`parse_type_name`] reads it into a buffer of the caller's and gives a
-//! [`Tree`] or a [`Refusal`]; [`parse_type_list`] reads several type names with commas between them. A [`Table`] of rules over
-//! a tree's top-level nodes says which rule wins for a type name, and which of its rules overlap. [`widen`] brings over files of
-//! the old format, in which offsets have 32 bits, and [`narrow`] brings them back.
+//! [`Tree`] or a [`Refusal`]; [`parse_type_list`] reads several type names with commas between them. Of a tree,
+//! [`Tree::outer_arguments`] counts the arguments of the outer template. A [`Table`] of rules over a tree's top-level nodes says
+//! which rule wins for a type name, and which of its rules overlap. [`widen`] brings over files of the old format, in which
+//! offsets have 32 bits, and [`narrow`] brings them back.
 //!
 #![doc = "```"]
 #![doc = include_str!("../examples/lane.rs")]
@@ -14,9 +15,9 @@
 //!
 //! # What is proved, and what is not
 //!
-//! Proved, for every file, table and buffer: what the C functions `type_name_read`, `type_name_read_list`, `type_name_match`,
-//! `type_name_overlap`, `type_name_widen` and `type_name_narrow` answer and write. `README.md` says what that comprises,
-//! `include/type_name.h` what the caller of those functions sees to.
+//! Proved, for every file, table and buffer: what the C functions `type_name_read`, `type_name_read_list`, `type_name_outer`,
+//! `type_name_match`, `type_name_overlap`, `type_name_widen` and `type_name_narrow` answer and write. `README.md` says what that
+//! comprises, `include/type_name.h` what the caller of those functions sees to.
 //!
 //! Not proved: this crate. It sees to what no contract covers by handing over slices, which are aligned, as long as they
 //! say, never null and, as those that are written are `&mut`, apart from each other. It gives the numbers names and lays out
@@ -62,8 +63,8 @@ pub use numbered::UnknownNumberError;
 pub use overlaps::{Overlap, Overlaps};
 pub use profile::{CStandard, CppStandard, FortranStandard, HostLanguage, HostLanguageProfile};
 pub use raw::{
-    type_name_match, type_name_narrow, type_name_overlap, type_name_read, type_name_read_list,
-    type_name_widen,
+    type_name_match, type_name_narrow, type_name_outer, type_name_overlap, type_name_read,
+    type_name_read_list, type_name_widen,
 };
 pub use row::{AMPLE_ALLOWANCE, Head, RecordError, Row, StructureCheck, limit_allowance};
 pub use rule::{Item, ItemKind, Items, RuleError};

@@ -8,7 +8,7 @@ use crate::answer::{Refusal, TypeNameError};
 use crate::cuts::{Cuts, PartPlace};
 use crate::limits::NO_PART;
 use crate::token::{Token, Tokens};
-use crate::tree::{Node, NodeKind, Nodes, Record, records};
+use crate::tree::{Node, NodeKind, Nodes, Record, outer_arguments, records};
 
 /// An accepted list of type names: the row's parts, each with its tree.
 ///
@@ -128,6 +128,13 @@ impl<'a> Part<'a> {
     #[must_use]
     pub fn top_level(&self) -> Nodes<'a> {
         Nodes::new(self.tree, self.tokens.clone())
+    }
+
+    /// How many arguments its outer template has, as [`Tree::outer_arguments`](crate::Tree::outer_arguments) counts them; `None`
+    /// if there is none.
+    #[must_use]
+    pub fn outer_arguments(&self) -> Option<usize> {
+        outer_arguments(self.tree)
     }
 
     /// All nodes, parents first, each with its level: how many groups and lists it stands in.

@@ -38,6 +38,16 @@ pub fn type_name_read_list(file: &[u8], tree: &mut [u32], answer: &mut [u32]) ->
     }
 }
 
+/// The C function that counts the arguments of the outer template: of the list that follows the word with which a tree begins,
+/// 0 if the numbers begin otherwise. Any numbers may be handed in, and nothing is written.
+///
+/// For those who have the numbers themselves; all others call [`Tree::outer_arguments`](crate::Tree::outer_arguments).
+#[must_use]
+pub fn type_name_outer(tree: &[u32]) -> u32 {
+    // SAFETY: as a slice, `tree` is aligned, valid for as long as it says and not null, and nobody writes it meanwhile.
+    unsafe { c::type_name_outer(tree.as_ptr(), tree.len()) }
+}
+
 /// The C function that also finds the rule that wins: returns and writes what [`type_name_read`] does, with the rule's place
 /// as the answer's last number.
 ///
@@ -139,6 +149,8 @@ mod c {
             answer: *mut u32,
             answer_len: usize,
         ) -> u32;
+
+        pub fn type_name_outer(tree: *const u32, tree_len: usize) -> u32;
 
         pub fn type_name_match(
             file: *const u8,

@@ -5,6 +5,7 @@ use alloc::vec::Vec;
 
 use crate::limits::NODE_WIDTH;
 use crate::numbered::numbered;
+use crate::raw::type_name_outer;
 use crate::token::{Token, Tokens};
 
 numbered! {
@@ -46,6 +47,14 @@ pub(crate) fn records(buffer: &[u32], nodes: u32) -> &[Record] {
     &records[..nodes as usize]
 }
 
+/// How many arguments the outer template of a tree has, `None` if there is none: the C function says 0 then.
+pub(crate) fn outer_arguments(tree: &[Record]) -> Option<usize> {
+    match type_name_outer(tree.as_flattened()) {
+        0 => None,
+        arguments => Some(arguments as usize),
+    }
+}
+
 /// The tree of an accepted type name.
 ///
 /// It borrows the buffer that holds its node records and the row file that it was read from, so that neither can change
@@ -83,6 +92,20 @@ impl<'a> Tree<'a> {
     #[must_use]
     pub fn top_level(&self) -> Nodes<'a> {
         Nodes::new(self.records, Tokens::new(self.file))
+    }
+
+    /// How many arguments its outer template has, at least one: those of the list that follows the word with which the tree
+    /// begins. `None` if it does not begin with a word followed by a list, as the trees of `A`, `::A<b>` and `const A<b>`.
+    ///
+    /// For a first pass that wants no more than this it is cheap: it looks at the first two nodes and goes from argument to
+    /// argument by their extents, past whatever stands below them.
+    ///
+    #[doc = "```"]
+    #[doc = include_str!("../examples/outer.rs")]
+    #[doc = "```"]
+    #[must_use]
+    pub fn outer_arguments(&self) -> Option<usize> {
+        outer_arguments(self.records)
     }
 
     /// All nodes, parents first, each with its level: how many groups and lists it stands in.

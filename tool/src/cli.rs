@@ -5,13 +5,14 @@ use std::io::{self, Write};
 use std::process::ExitCode;
 
 use crate::excerpt::visible;
-use crate::{convert, matching, overlaps, read, table};
+use crate::{convert, matching, outer, overlaps, read, table};
 
 const HELP: &str = "\
 type-name COMMAND ..: reads names of C, C++ and Fortran types with the proved reader
 
 Commands:
     read       the tree of a type name, or of each in a comma list; or why it is refused
+    outer      how many arguments the outer template of a type name has
     match      the rule of a table that wins for a type name
     overlaps   the pairs of rules of a table that some sequence of nodes matches together
     table      the file of a table, for the functions of the library
@@ -49,8 +50,9 @@ pub type Done = Result<Answer, Wrong>;
 type Command = fn(&[OsString]) -> Done;
 
 /// Each command by its name. Later ones are added here.
-const COMMANDS: [(&str, Command); 6] = [
+const COMMANDS: [(&str, Command); 7] = [
     ("read", read::command),
+    ("outer", outer::command),
     ("match", matching::command),
     ("overlaps", overlaps::command),
     ("table", table::command),

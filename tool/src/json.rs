@@ -90,6 +90,12 @@ fn or_null(value: Option<impl ToString>) -> String {
     value.map_or("null".to_owned(), |value| value.to_string())
 }
 
+/// The arguments of the outer template, if there is one.
+pub fn outer(arguments: Option<usize>, steps: u32) -> String {
+    let arguments = or_null(arguments);
+    format!("{{\"accepted\":true,\"steps\":{steps},\"arguments\":{arguments}}}\n")
+}
+
 /// The rule that wins.
 pub fn matched(rules: &Rules, place: usize, steps: u32) -> String {
     let rule = of_rule(rules, place);

@@ -15,6 +15,7 @@ mod json;
 mod listing;
 mod matching;
 mod options;
+mod outer;
 mod overlaps;
 mod profiles;
 mod read;

@@ -135,9 +135,10 @@ fn the_other_format_is_told() {
 #[test]
 fn an_old_file_that_is_to_be_read_is_told() {
     let hint = "hint: the file is in the old format; `type-name widen` brings it over\n";
-    let calls: [&[&str]; 3] = [
+    let calls: [&[&str]; 4] = [
         &["read", "--file", "-"],
         &["read", "--list", "--file", "-"],
+        &["outer", "--file", "-"],
         &["match", "lane.rules", "--file", "-"],
     ];
     for words in calls {

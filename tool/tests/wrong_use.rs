@@ -27,7 +27,7 @@ fn texts_with_a_slash_are_texts() {
 
 /// Wrong calls, and what each is told.
 #[rustfmt::skip]
-const WRONG: [(&[&str], &str); 36] = [
+const WRONG: [(&[&str], &str); 43] = [
     (&[], "a command is missing"),
     (&["reed", "int"], "no command `reed`"),
     (&["read"], "a TEXT or --file ROW is missing"),
@@ -45,6 +45,13 @@ const WRONG: [(&[&str], &str); 36] = [
     (&["read", "--list", "lane.row"], "--file reads a row file"),
     (&["read", "--file", "lane.row", "int"], "one of TEXT"),
     (&["read", "--file", "lane.row", "--language", "c"], "the row file says what --language would"),
+    (&["outer"], "a TEXT or --file ROW is missing"),
+    (&["outer", "int", "long"], "`long` is one word too many"),
+    (&["outer", "lane.row"], "--file reads a row file"),
+    (&["outer", "--file", "lane.row", "int"], "one of TEXT"),
+    (&["outer", "--file", "lane.row", "--no-structure"], "the row file says what --no-structure would"),
+    (&["outer", "--listing", "int"], "no option --listing"),
+    (&["outer", "--list", "int, long"], "no option --list;"),
     (&["match"], "a TABLE is missing"),
     (&["match", "lane.rules"], "a TEXT or --file ROW is missing"),
     (&["match", "lane.rules", "int", "long"], "`long` is one word too many"),
@@ -110,6 +117,7 @@ fn help_is_no_fault() {
         &["--help"][..],
         &["help"],
         &["read", "--help"],
+        &["outer", "--help"],
         &["match", "--help"],
         &["overlaps", "--help"],
         &["table", "--help"],
