@@ -11,7 +11,8 @@
 //! program replays, `token_list` is the original for measuring, `rules` and
 //! `lists` are models of rule tables and of several types in one row (document
 //! 02, C-11 and C-12) on top of `oracle`, `conversions` is one of the
-//! conversions between formats (C-14).
+//! conversions between formats (C-14), `outer` one of the outer template by
+//! extents (C-15).
 
 pub mod answer;
 pub mod chosen_rows;
@@ -25,6 +26,7 @@ pub mod listing;
 pub mod lists;
 pub mod names;
 pub mod oracle;
+pub mod outer;
 pub mod profile;
 pub mod replay;
 pub mod rules;

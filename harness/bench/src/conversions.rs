@@ -100,7 +100,8 @@ pub fn table(corpus: &str, text: &str) -> Result<(), String> {
     Ok(())
 }
 
-fn nanoseconds(mut pass: impl FnMut()) -> f64 {
+/// How long a pass takes: the fastest round's share.
+pub fn nanoseconds(mut pass: impl FnMut()) -> f64 {
     let begin = Instant::now();
     pass();
     let passes = 1 + (ROUND.as_nanos() / begin.elapsed().as_nanos().max(1)) as u32;

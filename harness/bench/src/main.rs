@@ -15,6 +15,7 @@ use type_name::{ANSWER_LENGTH, type_name_read, type_name_read_list};
 mod classes;
 mod conversions;
 mod lists;
+mod outer;
 mod rules;
 mod stack;
 
@@ -39,6 +40,10 @@ bench CORPUS --lists
 bench CORPUS --conversions [--class TEXT]
     Time and instructions a token of type_name_widen and type_name_narrow on each class of rows (whose name contains TEXT),
     beside those of type_name_read; spans are as a lexer gives them.
+bench CORPUS --outer
+    How many accepted names of the corpus have an outer template, by language; time and instructions a call of
+    type_name_outer beside the same count by a visit of every node of the tree, for the corpus, for one list of 1 to 256
+    arguments and for one argument of 1 to 256 nodes. Instructions are those within the function that counts.
 ";
 
 /// A round goes over a class as often as the original gets through it in this time, and once more.
@@ -63,6 +68,8 @@ fn main() -> ExitCode {
         [corpus, "--lists-once", read, name] => lists::once(corpus, read, name),
         [corpus, "--conversions"] => conversions::table(corpus, ""),
         [corpus, "--conversions", "--class", text] => conversions::table(corpus, text),
+        [corpus, "--outer"] => outer::table(corpus),
+        [corpus, "--outer-once", count, name] => outer::once(corpus, count, name),
         [corpus, "--once", reader, name] => once(corpus, reader, name),
         _ => Err(HELP.to_owned()),
     };
@@ -228,6 +235,8 @@ fn counted(arguments: &[&str]) -> Result<u64, String> {
         .arg("--toggle-collect=*proved_matches*")
         .arg("--toggle-collect=*proved_lists*")
         .arg("--toggle-collect=*proved_conversions*")
+        .arg("--toggle-collect=type_name_outer")
+        .arg("--toggle-collect=*by_every_node*")
         .arg(program)
         .args(arguments)
         .output()

@@ -16,6 +16,7 @@ mod conversions;
 mod corpus;
 mod lists;
 mod notes;
+mod outer;
 mod rules;
 
 const HELP: &str = "\
@@ -42,6 +43,11 @@ side_by_side --conversions [--seed S] [--count N]
     N calls or some more (default 100000, seed 1) for the conversions between the old format and the current one: files that
     are chosen, generated, damaged and at the limits, the harness's model and the proved library; what is converted is
     converted back, and some widened files are read. Prints how often each outcome was seen.
+side_by_side --outer [--seed S] [--count N]
+    Calls for the outer template by extents: all sequences of up to 5 nodes over few kinds and extents, then N calls or some
+    more (default 100000, seed 1) on trees of accepted rows, on such with other numbers where these do not count, on
+    damaged ones and on small numbers: the harness's model, the original's full tree and the proved library. Prints how
+    often each outcome was seen, and where there was no list, which test was the first that failed.
 ";
 
 /// What the buffer holds before a call.
@@ -50,10 +56,11 @@ const DIRT: u32 = 0xdead_beef;
 /// Compares the library with a model of the harness, from a seed on, in so many calls.
 type Compare = fn(seed: u64, count: u64) -> ExitCode;
 
-const MODELS: [(&str, Compare); 3] = [
+const MODELS: [(&str, Compare); 4] = [
     ("--rules", rules::compare),
     ("--lists", lists::compare),
     ("--conversions", conversions::compare),
+    ("--outer", outer::compare),
 ];
 
 fn main() -> ExitCode {
