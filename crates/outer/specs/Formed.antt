@@ -18,7 +18,8 @@ abbrev pub SomeArguments : Nodes → Type 0
 SomeArguments none = ⊥
 SomeArguments (node k i b x) = (k ≡ A-node) × Arguments x
 
--- A node of this kind has these nodes below it: a T none, an L arguments, an A some; and an L stands behind a word.
+-- A node of this kind has these nodes below it: a T none, an L arguments, an A some, since "an empty argument" makes a try fail; and an L stands
+-- behind a word: "a `<` whose left neighbour node is an identifier token is tried as a list".
 abbrev pub NodeFormed : NodeKind → (behind-word : Bool) (below : Nodes) → Type 0
 NodeFormed T-node behind-word b = b ≡ none
 NodeFormed G-node behind-word b = Unit {0}

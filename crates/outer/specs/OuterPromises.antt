@@ -18,8 +18,9 @@ use Rattle.outer.specs.ByExtents.{outer-by-extents}
 abbrev pub Agrees : (numbers : List ℕ) → Nodes → (n : ℕ) → Type 0
 Agrees numbers x n = (kind-of numbers n ≡ kind-of (records x) n) × (extent-of numbers n ≡ extent-of (records x) n)
 
--- Numbers at least as long as the tree's, which agree at "the first two nodes and the list's argument nodes", "whatever numbers stand outside".
-pub record AgreesOutside (kinds : List ℕ) (x : Nodes) (numbers : List ℕ) : Type 0 where
+-- Numbers at least as long as the tree's, which agree with it at "the first two nodes and the list's argument nodes", "whatever numbers stand
+-- outside".
+pub record AgreesWith (kinds : List ℕ) (x : Nodes) (numbers : List ℕ) : Type 0 where
   pub long : length (records x) ≤ length numbers
   pub first : Agrees numbers x 0
   pub second : 1 < count x → Agrees numbers x 1
@@ -29,7 +30,7 @@ pub record AgreesOutside (kinds : List ℕ) (x : Nodes) (numbers : List ℕ) : T
 
 -- "For an accepted tree the answer is the one counted from the full tree, and it stays whatever numbers stand outside".
 abbrev pub Counted : (numbers : List ℕ) (answer : ℕ) → Type 0
-Counted numbers answer = (kinds : List ℕ) (x : Nodes) → TreeFormed kinds x → AgreesOutside kinds x numbers → answer ≡ outer-arguments kinds x
+Counted numbers answer = (kinds : List ℕ) (x : Nodes) → TreeFormed kinds x → AgreesWith kinds x numbers → answer ≡ outer-arguments kinds x
 
 -- Node number n is a word: a T of an identifier.
 pub record WordAt (kinds records : List ℕ) (n : ℕ) : Type 0 where

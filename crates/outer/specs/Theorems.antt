@@ -14,7 +14,7 @@ use Rattle.type_list.specs.ListPromises.{PartTree, AcceptedList}
 use Rattle.outer.specs.Formed.{TreeFormed}
 use Rattle.outer.specs.OuterTemplate.{outer-arguments}
 use Rattle.outer.specs.ByExtents.{outer-by-extents}
-use Rattle.outer.specs.OuterPromises.{AgreesOutside, WordsBeforeLists, OuterPromised}
+use Rattle.outer.specs.OuterPromises.{AgreesWith, WordsBeforeLists, OuterPromised}
 use Rattle.outer.specs.Laws.ReadTrees as ReadTrees
 use Rattle.outer.specs.Laws.Words as Words
 use Rattle.outer.specs.Laws.Counted as Counted
@@ -28,7 +28,7 @@ promised = Promised.promised
 
 -- ---- which trees are formed
 
--- Every accepted tree: an L stands behind a word and above arguments, one at least, and a T above nothing.
+-- Every accepted tree: an L stands behind a word and above arguments, one at least, an A above some node, a T above none.
 pub accepted-formed : (language standard flag : ℕ) (kinds words : List ℕ) (allowance : ℕ) {x : Nodes} {steps : ℕ} → answerOf language standard flag kinds words allowance ≡ accepted x steps → TreeFormed kinds x
 accepted-formed = ReadTrees.accepted-formed
 
@@ -39,7 +39,7 @@ words-before-lists = Words.words-before-lists
 -- "For an accepted tree the answer is the one counted from the full tree, and it stays whatever numbers stand outside the first two nodes and the list's
 -- argument nodes."
 pub stays : (language standard flag : ℕ) (kinds words : List ℕ) (allowance : ℕ) {x : Nodes} {steps : ℕ} → answerOf language standard flag kinds words allowance ≡ accepted x steps
-    → (numbers : List ℕ) → AgreesOutside kinds x numbers → outer-by-extents numbers ≡ outer-arguments kinds x
+    → (numbers : List ℕ) → AgreesWith kinds x numbers → outer-by-extents numbers ≡ outer-arguments kinds x
 stays language standard flag kinds words allowance {x} e numbers a = Counted.counted numbers kinds x (accepted-formed language standard flag kinds words allowance e) a
 
 -- ---- the buffers that entries leave

@@ -16,7 +16,7 @@ use Rattle.type_nodes.specs.Stands.{below}
 use Rattle.outer.specs.Formed.{SomeArguments, Formed}
 use Rattle.outer.specs.OuterTemplate.{node-numbers, list-first, is-word, word-first, begins-with-list, outer-arguments, argument-nodes}
 use Rattle.outer.specs.ByExtents.{outer-by-extents}
-use Rattle.outer.specs.OuterPromises.{Agrees, AgreesOutside, Counted, ArgumentsFill}
+use Rattle.outer.specs.OuterPromises.{Agrees, AgreesWith, Counted, ArgumentsFill}
 use Rattle.outer.specs.Laws.ReadTrees.{some-are}
 use Rattle.outer.specs.Laws.Placed.{level-placed, agree-placed, placed-fill}
 use Rattle.outer.specs.Laws.Lists.{list-counted, list-none}
@@ -36,7 +36,7 @@ a-list false t x y = absurd t
 
 module _ (kinds numbers : List ℕ) where
   -- A word and a list.
-  begins : (i j : ℕ) (c z : Nodes) → SomeArguments c → AgreesOutside kinds (node T-node i none (node L-node j c z)) numbers
+  begins : (i j : ℕ) (c z : Nodes) → SomeArguments c → AgreesWith kinds (node T-node i none (node L-node j c z)) numbers
       → ((n : ℕ) → List·Memᴰ n (node-numbers 2 c) → Agrees numbers (node T-node i none (node L-node j c z)) n)
       → outer-by-extents numbers ≡ length (arguments-of c)
   unfolding records count number
@@ -55,16 +55,16 @@ module _ (kinds numbers : List ℕ) where
       })
 
   -- What does not begin so.
-  not-word : (x : Nodes) → AgreesOutside kinds x numbers → kind-of (records x) 0 ≢ number T-node → outer-by-extents numbers ≡ 0
+  not-word : (x : Nodes) → AgreesWith kinds x numbers → kind-of (records x) 0 ≢ number T-node → outer-by-extents numbers ≡ 0
   not-word x a w = list-none numbers (λ many b. w (sym (a .first .0) ∙ b .word))
 
-  not-list : (x : Nodes) → AgreesOutside kinds x numbers → 1 < count x → kind-of (records x) 1 ≢ number L-node → outer-by-extents numbers ≡ 0
+  not-list : (x : Nodes) → AgreesWith kinds x numbers → 1 < count x → kind-of (records x) 1 ≢ number L-node → outer-by-extents numbers ≡ 0
   not-list x a p l = list-none numbers (λ many b. l (sym (a .second p .0) ∙ b .list))
 
-  alone : (x : Nodes) → AgreesOutside kinds x numbers → count x ≡ 1 → outer-by-extents numbers ≡ 0
+  alone : (x : Nodes) → AgreesWith kinds x numbers → count x ≡ 1 → outer-by-extents numbers ≡ 0
   alone x a e = list-none numbers (λ many b. a .no-second e (omega (arith, b .within, b .list-extent)) (b .list))
 
-  after-token : (i : ℕ) (y : Nodes) → Formed kinds (is-word kinds T-node i) y → AgreesOutside kinds (node T-node i none y) numbers
+  after-token : (i : ℕ) (y : Nodes) → Formed kinds (is-word kinds T-node i) y → AgreesWith kinds (node T-node i none y) numbers
       → outer-by-extents numbers ≡ outer-arguments kinds (node T-node i none y)
   unfolding outer-arguments argument-nodes begins-with-list is-word word-first list-first next below arguments-of records count number
   after-token i none f a = alone (node T-node i none none) a refl ∙ sym (no-list (is-word kinds T-node i) 0)
