@@ -1,4 +1,4 @@
--- The two conversions: document 02, C-14.
+-- The two conversions: document 02, C-14 and C-16.
 -- Assumes nothing.
 use Prim.Native.Nat.{ℕ, _^_}
 use mathlib.Core.Bool.{Bool, false, _||_}
@@ -9,14 +9,23 @@ use Rattle.rows.specs.Notation.{if_then_else_}
 use Rattle.rows.specs.Format.{format, old-format}
 use Rattle.rows.specs.declared.answer.TypeNameError.the-variants.{FileTooLong, ShortBuffer, OffsetOver32Bits}
 use Rattle.type_name.specs.FileRow.{Outcome, untouched, passes, on-pass}
-use Rattle.convert.specs.Fields.{TokenFields, Fields, fields-of, file-bytes}
+use Rattle.convert.specs.Standards.{widened-standard, narrowed-standard}
+use Rattle.convert.specs.Fields.{TokenFields, Fields, with-standard, fields-of, file-bytes}
 use Rattle.convert.specs.declared.entry.ConvertAnswer.{ConvertAnswer}
 use Rattle.convert.specs.declared.entry.ConvertAnswer.the-variants.{Converted, Refused}
 
+-- C-16: "the converter from old files writes 254 where it finds 255".
+abbrev pub widened-fields : Fields → Fields
+widened-fields c = with-standard (widened-standard (c .standard)) c
+
+-- C-16: "its inverse writes 255 for 254 and the standard's own number for 255".
+abbrev pub narrowed-fields : Fields → Fields
+narrowed-fields c = with-standard (narrowed-standard (c .language) (c .standard)) c
+
 -- "A converter brings old files over, of at most 65,536 bytes as before": the new file's bytes, or a refusal.
 unfoldable pub widened : (file : List ℕ) → Outcome (List ℕ)
-unfolding on-pass fields-of file-bytes
-widened file = on-pass (fields-of old-format file) λ c. passes (file-bytes format c)
+unfolding on-pass fields-of file-bytes widened-standard
+widened file = on-pass (fields-of old-format file) λ c. passes (file-bytes format (widened-fields c))
 
 -- "over 32 bits".
 abbrev pub numbers-32 : ℕ
@@ -37,8 +46,8 @@ old-form c =
 
 -- "Its inverse": the old file's bytes, or a refusal.
 unfoldable pub narrowed : (file : List ℕ) → Outcome (List ℕ)
-unfolding on-pass fields-of old-form
-narrowed file = on-pass (fields-of format file) λ c. old-form c
+unfolding on-pass fields-of old-form narrowed-standard
+narrowed file = on-pass (fields-of format file) λ c. old-form (narrowed-fields c)
 
 -- C-11: "A short byte buffer for output is 6, checked last". With an output of `room` bytes.
 unfoldable pub with-output : (room : ℕ) → (bytes : List ℕ) → Outcome (List ℕ)

@@ -10,7 +10,7 @@ use Rattle.rows.specs.declared.format.Format.{Format}
 use Rattle.rows.specs.declared.token.TokenRecord.the-variants.{Formed}
 use Rattle.rows.specs.Records.{found, kind-at, length-at, records-from, span-start-at, span-end-at, word-at}
 use Rattle.type_name.specs.FileRow.{Outcome, untouched, passes, on-pass, row-read}
-use Rattle.convert.specs.Fields.{TokenFields, Fields, fields-with, fields-of, records-bytes, file-bytes}
+use Rattle.convert.specs.Fields.{TokenFields, Fields, with-standard, fields-with, fields-of, records-bytes, file-bytes}
 use Rattle.convert.specs.Conversions.{over-32-bits}
 use Rattle.convert.specs.declared.check.Checked.{Checked}
 use Rattle.convert.specs.declared.check.Checked.the-variants.{Sound, Refused}
@@ -35,11 +35,11 @@ pub record RecordReady (from to : Format) (file : List ℕ) (at : ℕ) (output :
   pub formed : found from file at ≡ Formed (kind-at from file at) (length-at from file at)
   pub room : out + (token-length to + length (word-at from file at)) ≤ length output
 
--- The file of a sound file's fields in another format.
-unfoldable pub bytes-in : (to : Format) → Outcome Fields → List ℕ
+-- The file of a sound file's fields in another format, with this number for the standard.
+unfoldable pub bytes-in : (to : Format) (standard : ℕ) → Outcome Fields → List ℕ
 unfolding file-bytes
-bytes-in to (untouched e) = []
-bytes-in to (passes c) = file-bytes to c
+bytes-in to standard (untouched e) = []
+bytes-in to standard (passes c) = file-bytes to (with-standard standard c)
 
 -- Its token records alone.
 unfoldable pub records-in : (to : Format) → Outcome Fields → List ℕ
@@ -58,12 +58,12 @@ pub record RecordsReady (from to : Format) (file output : List ℕ) (begin : ℕ
   pub room : begin + length (records-in to (fields-of from file)) ≤ length output
 
 -- A sound file, and room in the output for it in another format.
-pub record FileReady (from to : Format) (file output : List ℕ) : Type 0 where
+pub record FileReady (from to : Format) (standard : ℕ) (file output : List ℕ) : Type 0 where
   pub sound : IsSound from file
-  pub room : length (bytes-in to (fields-of from file)) ≤ length output
+  pub room : length (bytes-in to standard (fields-of from file)) ≤ length output
 
 -- A sound file, and how many bytes it has in another format.
-pub record Counted (from to : Format) (file : List ℕ) (bytes : ℕ) : Type 0 where
+pub record Counted (from to : Format) (standard : ℕ) (file : List ℕ) (bytes : ℕ) : Type 0 where
   pub sound : IsSound from file
-  pub counts : bytes ≡ length (bytes-in to (fields-of from file))
+  pub counts : bytes ≡ length (bytes-in to standard (fields-of from file))
   pub small : bytes < 2 ^ 32

@@ -25,6 +25,10 @@ pub record Fields : Type 0 where
   pub allowance : ℕ
   pub tokens : List TokenFields
 
+-- The same fields but for the standard's number.
+abbrev pub with-standard : (standard : ℕ) → Fields → Fields
+with-standard standard c = record { language = c .language; standard = standard; flag = c .flag; allowance = c .allowance; tokens = c .tokens }
+
 -- ---- the fields of a file
 
 module _ (f : Format) (file : List ℕ) where

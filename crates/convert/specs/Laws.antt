@@ -1,3 +1,4 @@
+pub mod Standards
 pub mod Stand
 pub mod OneRecord
 pub mod Written
@@ -9,5 +10,8 @@ pub mod CheckLoop
 pub mod WriteLoop
 pub mod Entries
 pub mod SameAnswers
+pub mod Later
+pub mod Alike
+pub mod NewerStandards
 pub mod Promised
 pub mod Converted

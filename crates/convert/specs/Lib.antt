@@ -1,9 +1,11 @@
 pub mod Bytes
+pub mod Standards
 pub mod Fields
 pub mod Conversions
 pub mod AnswerNumbers
 pub mod SameRow
 pub mod Promises
+pub mod NewerStandards
 pub mod ConvertSays
 pub mod Laws
 pub mod Theorems

@@ -9,7 +9,6 @@ use rows::head::AT_ALLOWANCE;
 use rows::head::AT_FLAG;
 use rows::head::AT_KIND;
 use rows::head::AT_LANGUAGE;
-use rows::head::AT_STANDARD;
 use rows::head::HEAD_LENGTH;
 use rows::token::span;
 use text::put_byte;
@@ -17,7 +16,7 @@ use text::put_bytes;
 use text::put_little_endian;
 ghost use Prim.Native.Nat.{_≤_};
 ghost use lib.ListN.{getD, length};
-ghost use Rattle.rows.specs.Format.{allowance-bytes, at-allowance, at-flag, at-language, at-standard, head-length};
+ghost use Rattle.rows.specs.Format.{allowance-bytes, at-allowance, at-flag, at-language, head-length};
 ghost use Rattle.rows.specs.Records.{little-endian};
 ghost use Rattle.text.specs.Text.{Appended};
 ghost use Rattle.convert.specs.Fields.{fields-of, head-bytes, token-bytes};
@@ -28,18 +27,18 @@ const SHORT_BYTES: usize = 2;
 const ALLOWANCE_BYTES: usize = 4;
 
 // The head record, in front of the output.
-fn put_head(to: Format, file: &[u8], output: &mut [u8]) -> usize
+fn put_head(to: Format, standard: u8, file: &[u8], output: &mut [u8]) -> usize
     requires { ⌜ (head-length ≤ length (now file)) × (head-length ≤ length (now output)) ⌝ }
-    ensures { λ r. ⌜ Appended (now (output .entry)) 0 (head-bytes to (getD (now (file .entry)) at-language 0) (getD (now (file .entry)) at-standard 0) (getD (now (file .entry)) at-flag 0) (little-endian allowance-bytes (now (file .entry)) at-allowance)) r (now (output .exit)) ⌝ }
+    ensures { λ r. ⌜ Appended (now (output .entry)) 0 (head-bytes to (getD (now (file .entry)) at-language 0) standard (getD (now (file .entry)) at-flag 0) (little-endian allowance-bytes (now (file .entry)) at-allowance)) r (now (output .exit)) ⌝ }
 {
-    let kind = put_little_endian(output, 0, HEAD_LENGTH, SHORT_BYTES);
-    let language = put_little_endian(output, kind, to.head_kind, SHORT_BYTES);
-    let standard = put_byte(output, language, file[AT_LANGUAGE]);
-    let flag = put_byte(output, standard, file[AT_STANDARD]);
-    let allowance = put_byte(output, flag, file[AT_FLAG]);
+    let at_kind = put_little_endian(output, 0, HEAD_LENGTH, SHORT_BYTES);
+    let at_language = put_little_endian(output, at_kind, to.head_kind, SHORT_BYTES);
+    let at_standard = put_byte(output, at_language, file[AT_LANGUAGE]);
+    let at_flag = put_byte(output, at_standard, standard);
+    let at_allowance = put_byte(output, at_flag, file[AT_FLAG]);
     put_little_endian(
         output,
-        allowance,
+        at_allowance,
         four_bytes(file, AT_ALLOWANCE),
         ALLOWANCE_BYTES,
     )
@@ -84,10 +83,11 @@ fn put_records(from: Format, to: Format, file: &[u8], output: &mut [u8], begin: 
     out
 }
 
-pub fn put_file(from: Format, to: Format, file: &[u8], output: &mut [u8]) -> usize
-    requires { ⌜ FileReady from to (now file) (now output) ⌝ }
-    ensures { λ r. ⌜ Appended (now (output .entry)) 0 (bytes-in to (fields-of from (now (file .entry)))) r (now (output .exit)) ⌝ }
+// A sound file, its head with this standard.
+pub fn put_file(from: Format, to: Format, standard: u8, file: &[u8], output: &mut [u8]) -> usize
+    requires { ⌜ FileReady from to standard (now file) (now output) ⌝ }
+    ensures { λ r. ⌜ Appended (now (output .entry)) 0 (bytes-in to standard (fields-of from (now (file .entry)))) r (now (output .exit)) ⌝ }
 {
-    let begin = put_head(to, file, output);
+    let begin = put_head(to, standard, file, output);
     put_records(from, to, file, output, begin)
 }

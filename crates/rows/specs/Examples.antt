@@ -4,7 +4,7 @@ use Prim.Native.Nat.{ℕ, suc, _+_}
 use mathlib.Core.Path.{_≡_, refl}
 use mathlib.Core.List.{List, [], _∷_, _++_, map}
 use lib.ListN.{take, replicate}
-use Rattle.rows.specs.Languages.{C, Cpp, Fortran, C89, C18, Cpp17, Fortran2018, Fortran2023}
+use Rattle.rows.specs.Languages.{C, Cpp, Fortran, C89, C18, Fortran2023}
 use Rattle.rows.specs.Kinds.{Identifier, Star}
 use Rattle.rows.specs.Format.{format, old-format, head-length, most-tokens, meant, declared, stands-for}
 use Rattle.rows.specs.Records.{Row, row, refused, head, head-formed, head-with, little-endian, records-from, to-end, tokens-from, after-record, found, well-formed, length-fits, word-fits, word-at, span-end-at, span-start-at, kind-at, length-at, in-range, before-tokens}
@@ -78,9 +78,14 @@ sign-of k s = record-of 0 20 k s (suc s)
 int-star : List ℕ
 int-star = head-of C C89 1 9 ++ (record-of 0 23 Identifier 0 3 ++ bytes "int") ++ sign-of Star 3
 
-standard-of : FileHead → ℕ
-standard-of (Formed h) = h .standard
-standard-of (Refused e) = refusalOf e .number
+-- The standard that a head means, or its refusal's number.
+data HeadSaid : Type 0 where
+  means : ℕ → HeadSaid
+  refuses : ℕ → HeadSaid
+
+said : FileHead → HeadSaid
+said (Formed h) = means (h .standard)
+said (Refused e) = refuses (refusalOf e .number)
 
 int-star-head : head format int-star ≡ Formed (record { language = C; standard = C89; flag = 1; allowance = 9 })
 unfolding head head-formed head-with meant declared little-endian int-star head-of record-of sign-of bytes
@@ -91,21 +96,37 @@ int-star-row : records-from format int-star most-tokens head-length
 unfolding records-from to-end tokens-from after-record found well-formed length-fits word-fits word-at span-end-at span-start-at kind-at length-at in-range before-tokens little-endian int-star head-of record-of sign-of bytes
 int-star-row = refl
 
--- What 255 means, and the refusals 1 to 3.
-heads : map standard-of
-    (head format (head-of C 255 1 0) ∷ head format (head-of Cpp 255 1 0) ∷ head format (head-of Fortran 255 1 0) ∷ head format (head-of C 254 1 0)
-    ∷ head format (head-of Fortran 6 1 0) ∷ head format (head-of C 5 1 0) ∷ head format (head-of 3 255 1 0) ∷ head format (head-of 3 0 2 0)
+-- What 255 and 254 mean in C, C++ and Fortran; 253 is no standard of any.
+outside : map said
+    (head format (head-of C 255 1 0) ∷ head format (head-of Cpp 255 1 0) ∷ head format (head-of Fortran 255 1 0)
+    ∷ head format (head-of C 254 1 0) ∷ head format (head-of Cpp 254 1 0) ∷ head format (head-of Fortran 254 1 0)
+    ∷ head format (head-of C 253 1 0) ∷ head format (head-of Cpp 253 1 0) ∷ head format (head-of Fortran 253 1 0) ∷ [])
+    ≡ means 4 ∷ means 5 ∷ means 6 ∷ means 3 ∷ means 3 ∷ means 5 ∷ refuses 3 ∷ refuses 3 ∷ refuses 3 ∷ []
+unfolding said head head-formed head-with meant declared stands-for little-endian head-of
+outside = refl
+
+-- In an old file 255 means what it did, and 254 is no standard.
+old-outside : map said
+    (head old-format (head-as 0 C 255 1 0) ∷ head old-format (head-as 0 Cpp 255 1 0) ∷ head old-format (head-as 0 Fortran 255 1 0)
+    ∷ head old-format (head-as 0 C 254 1 0) ∷ head old-format (head-as 0 Cpp 254 1 0) ∷ head old-format (head-as 0 Fortran 254 1 0) ∷ head old-format (head-as 0 C 253 1 0) ∷ [])
+    ≡ means 3 ∷ means 3 ∷ means 5 ∷ refuses 3 ∷ refuses 3 ∷ refuses 3 ∷ refuses 3 ∷ []
+unfolding said head head-formed head-with meant declared stands-for little-endian head-as
+old-outside = refl
+
+-- The refusals 1 to 3.
+heads : map said
+    (head format (head-of Fortran 6 1 0) ∷ head format (head-of C 5 1 0) ∷ head format (head-of 3 255 1 0) ∷ head format (head-of 3 254 1 0) ∷ head format (head-of 3 0 2 0)
     ∷ head format (take 10 (head-of C 0 1 0)) ∷ head format (replicate 131073 0) ∷ [])
-    ≡ C18 ∷ Cpp17 ∷ Fortran2018 ∷ 3 ∷ Fortran2023 ∷ 3 ∷ 3 ∷ 2 ∷ 2 ∷ 1 ∷ []
-unfolding standard-of head head-formed head-with meant declared stands-for little-endian head-of
+    ≡ means Fortran2023 ∷ refuses 3 ∷ refuses 3 ∷ refuses 3 ∷ refuses 2 ∷ refuses 2 ∷ refuses 1 ∷ []
+unfolding said head head-formed head-with meant declared stands-for little-endian head-of
 heads = refl
 
 -- "The head's kind becomes 261, so an old file is refused with 2"; an old file is one of kind 256 and "of at most 65,536 bytes as before".
-old-heads : map standard-of
-    (head format (head-as 0 C 3 1 0) ∷ head old-format (head-as 0 C 3 1 0) ∷ head old-format (head-of C 3 1 0) ∷ head old-format (head-as 0 C 255 1 0)
-    ∷ head old-format (head-as 0 C 254 1 0) ∷ head old-format (replicate 65536 0) ∷ head old-format (replicate 65537 0) ∷ head format (replicate 65537 0) ∷ [])
-    ≡ 2 ∷ 3 ∷ 2 ∷ C18 ∷ 3 ∷ 2 ∷ 1 ∷ 2 ∷ []
-unfolding standard-of head head-formed head-with meant declared stands-for little-endian head-as head-of
+old-heads : map said
+    (head format (head-as 0 C 3 1 0) ∷ head old-format (head-as 0 C 3 1 0) ∷ head old-format (head-of C 3 1 0)
+    ∷ head old-format (replicate 65536 0) ∷ head old-format (replicate 65537 0) ∷ head format (replicate 65537 0) ∷ [])
+    ≡ refuses 2 ∷ means C18 ∷ refuses 2 ∷ refuses 2 ∷ refuses 1 ∷ refuses 2 ∷ []
+unfolding said head head-formed head-with meant declared stands-for little-endian head-as head-of
 old-heads = refl
 
 refusal-in : Row → Refusal

@@ -1,4 +1,4 @@
--- The numbers of the record file: document 01, "Head record", "Token record" and "Answer record"; document 02, C-14.
+-- The numbers of the record file: document 01, "Head record", "Token record" and "Answer record"; document 02, C-14 and C-16.
 -- Assumes nothing.
 use Prim.Native.Nat.{ℕ, _+_, _*_, _≤_}
 use mathlib.Core.Bool.{Bool, not}
@@ -13,12 +13,17 @@ use Rattle.rows.specs.declared.head.Meaning.{Meaning}
 use Rattle.rows.specs.declared.head.Meaning.the-variants.{Means, Unknown}
 use Rattle.rows.specs.Languages.{C, Cpp, Fortran, C18, C23, Cpp17, Cpp23, Fortran2018, Fortran2023}
 
--- "255 means C18, Cpp17 or Fortran2018."
-abbrev pub default-standards : StandIn
-default-standards = StandsFor C18 Cpp17 Fortran2018
+-- "255 means C18, Cpp17 or Fortran2018." C-16: "Release archives relied on C18, Cpp17 and Fortran2018".
+abbrev pub archive-standards : StandIn
+archive-standards = StandsFor C18 Cpp17 Fortran2018
+
+-- C-16: "C23, Cpp23 and Fortran2023".
+abbrev pub newer-standards : StandIn
+newer-standards = StandsFor C23 Cpp23 Fortran2023
 
 -- The format that every entry reads; `Format` is the code's struct of the numbers that requests of document 02 change. C-14: "Span start and end become
--- 8 bytes each ..; the head's kind becomes 261 ..; the file limit becomes 131,072 bytes".
+-- 8 bytes each ..; the head's kind becomes 261 ..; the file limit becomes 131,072 bytes". C-16: "Standard 255 comes to mean C23, Cpp23 and Fortran2023";
+-- "so 254 names those from now on", the archives' standards.
 abbrev pub format : Format
 format =
     record {
@@ -26,11 +31,11 @@ format =
       «span_width» = Eight;
       «file_limit» = 131072;
       «greatest_flag» = 1;
-      «means_254» = Nothing;
-      «means_255» = default-standards;
+      «means_254» = archive-standards;
+      «means_255» = newer-standards;
     }
 
--- Document 01's format, C-14's "old files", "of at most 65,536 bytes as before".
+-- Document 01's format, C-14's "old files", "of at most 65,536 bytes as before". C-16: "Refusal 3 no longer covers 254, save in old files."
 abbrev pub old-format : Format
 old-format =
     record {
@@ -39,7 +44,7 @@ old-format =
       «file_limit» = 65536;
       «greatest_flag» = 1;
       «means_254» = Nothing;
-      «means_255» = default-standards;
+      «means_255» = archive-standards;
     }
 
 -- ---- the head record: "length (2 bytes, ..), kind (2 bytes, ..), language (1 byte ..), standard (1 byte, ..), structure flag (1 byte, ..), allowance (4 bytes)"
@@ -138,11 +143,11 @@ stands-for language (StandsFor c cpp fortran) =
     else if eqb language Fortran then Means fortran
     else Unknown
 
--- The numbers outside that order that a format may know.
+-- The numbers outside that order that a format may know: C-16's "254 names those from now on",
 abbrev pub standard-254 : ℕ
 standard-254 = 254
 
--- "255 means ..".
+-- and "255 means ..".
 abbrev pub standard-255 : ℕ
 standard-255 = 255
 

@@ -3,7 +3,7 @@
 use crate::languages;
 ghost use mathlib.Core.Path.{_≡_};
 ghost use Prim.Native.Nat.{_+_, _*_, _≤_};
-ghost use Rattle.rows.specs.Format.{at-span, bytes-of, format, old-format, token-length};
+ghost use Rattle.rows.specs.Format.{archive-standards, at-span, bytes-of, format, newer-standards, old-format, token-length};
 ghost use Rattle.rows.specs.declared.format.SpanWidth.the-variants.{Eight};
 
 // The bytes of a span's start, and of its end.
@@ -29,6 +29,28 @@ pub struct Format {
 
 pub const AT_SPAN: usize = 4;
 
+// What 254 means, and 255 in document 01's format.
+fn archive_standards() -> StandIn
+    ensures { λ r. ⌜ r ≡ archive-standards ⌝ }
+{
+    StandIn::StandsFor {
+        c: languages::C18,
+        cpp: languages::CPP17,
+        fortran: languages::FORTRAN2018,
+    }
+}
+
+// What 255 means.
+fn newer_standards() -> StandIn
+    ensures { λ r. ⌜ r ≡ newer-standards ⌝ }
+{
+    StandIn::StandsFor {
+        c: languages::C23,
+        cpp: languages::CPP23,
+        fortran: languages::FORTRAN2023,
+    }
+}
+
 // The format that every entry reads.
 pub fn current() -> Format
     ensures { λ r. ⌜ r ≡ format ⌝ }
@@ -38,12 +60,8 @@ pub fn current() -> Format
         span_width: SpanWidth::Eight,
         file_limit: 131072,
         greatest_flag: 1,
-        means_254: StandIn::Nothing,
-        means_255: StandIn::StandsFor {
-            c: languages::C18,
-            cpp: languages::CPP17,
-            fortran: languages::FORTRAN2018,
-        },
+        means_254: archive_standards(),
+        means_255: newer_standards(),
     }
 }
 
@@ -57,11 +75,7 @@ pub fn old() -> Format
         file_limit: 65536,
         greatest_flag: 1,
         means_254: StandIn::Nothing,
-        means_255: StandIn::StandsFor {
-            c: languages::C18,
-            cpp: languages::CPP17,
-            fortran: languages::FORTRAN2018,
-        },
+        means_255: archive_standards(),
     }
 }
 

@@ -26,14 +26,14 @@ pub const AT_FLAG: usize = 6;
 pub const AT_ALLOWANCE: usize = 7;
 
 // Numbers outside the order in which standards are declared, which a format may know.
-const STANDARD_254: u8 = 254;
+pub const STANDARD_254: u8 = 254;
 
-const STANDARD_255: u8 = 255;
+pub const STANDARD_255: u8 = 255;
 
 // The flag by which the structure is not checked.
 const WITHOUT_STRUCTURE: u8 = 0;
 
-// `standard` is the one that is meant: 255, for one, stands for another number.
+// `standard` is the one that is meant: 254 and 255 stand for other numbers.
 pub struct Head {
     pub language: u8,
     pub standard: u8,
@@ -86,7 +86,7 @@ fn stands_for(language: u8, number: StandIn) -> Meaning
     Meaning::Unknown
 }
 
-fn meant_standard(format: Format, language: u8, standard: u8) -> Meaning
+pub fn meant_standard(format: Format, language: u8, standard: u8) -> Meaning
     ensures { λ r. ⌜ r ≡ meant format language standard ⌝ }
 {
     if standard < declared_standards(language) {

@@ -1,11 +1,12 @@
 -- Computed rows of this crate's definitions, so that a wrong edit of one is refused here. Document 01's rows without a star; answers are its or the original's.
 -- Assumes nothing.
-use Prim.Native.Nat.{ℕ}
+use Prim.Native.Nat.{ℕ, _+_}
 use mathlib.Core.Path.{_≡_, refl}
 use mathlib.Core.List.{List, [], _∷_, _++_}
-use lib.ListN.{take, replicate}
+use lib.ListN.{length, take, replicate}
 use Rattle.rows.specs.Languages.{C, Cpp, Fortran, C89, Cpp98, Cpp17, Fortran2018}
-use Rattle.rows.specs.Kinds.{Integer, LeftParen, RightParen, LeftBracket, RightBracket, Star, Ampersand, Less, Greater, ShiftRight}
+use Rattle.rows.specs.Kinds.{Identifier, Integer, LeftParen, RightParen, LeftBracket, RightBracket, Star, Ampersand, Less, Greater, ShiftRight}
+use Rattle.rows.specs.Words.{bytes}
 use Rattle.rows.specs.Refusals.{no-token}
 use Rattle.reader.specs.Written.{Token, sign}
 use Rattle.rows.specs.declared.answer.Answer.the-variants.{Accepted, Refused}
@@ -96,3 +97,19 @@ cut-buffer = refl
 spent-buffer : final-buffer (int-file 1) (replicate 6 7) ≡ replicate 6 0
 unfolding file-first-line
 spent-buffer = refl
+
+-- ---- what 254 and 255 mean: document 02, C-16
+
+-- A record of this kind and word, its span from 0 to 0.
+record-of : (kind : ℕ) (word : List ℕ) → List ℕ
+record-of kind word = (20 + length word) ∷ 0 ∷ kind ∷ 0 ∷ replicate 16 0 ++ word
+
+-- `_BitInt(8)` in C with flag 1 and an allowance of 5: under 255 `no 40 65535 3 5` before, now `ok 3 5`; with 254 the 40.
+bit-int : (standard : ℕ) → List ℕ
+unfolding record-of bytes
+bit-int standard =
+    11 ∷ 0 ∷ 5 ∷ 1 ∷ C ∷ standard ∷ 1 ∷ 5 ∷ 0 ∷ 0 ∷ 0 ∷ record-of Identifier (bytes "_BitInt") ++ record-of LeftParen [] ++ record-of Integer [] ++ record-of RightParen []
+
+bit-ints : file-first-line (bit-int 255) 24 ∷ file-first-line (bit-int 254) 24 ∷ file-first-line (bit-int 253) 24 ∷ [] ≡ ok 3 5 ∷ refuses 40 no-token 3 5 ∷ refuses 3 no-token 0 0 ∷ []
+unfolding file-first-line bit-int
+bit-ints = refl

@@ -7,10 +7,10 @@ use mathlib.Core.Logic.{inl, inr}
 use mathlib.Core.List.{List, [], _∷_, map}
 use native.Mathlib.Omega.{arith}
 use borrow.Author.Tests.{lt-ltb, le-ltb, lt-leb, le-leb, leb-true, leb-false, ltb-true}
-use lib.ListN.{length, getD}
+use lib.ListN.{length}
 use lib.Dec.{leb, ltb}
 use Rattle.rows.specs.Notation.{if_then_else_}
-use Rattle.rows.specs.Format.{format, old-format, allowance-bytes, head-length, at-language, at-standard, at-allowance, most-tokens, token-length, span-bytes, meant}
+use Rattle.rows.specs.Format.{format, old-format, allowance-bytes, head-length, at-standard, at-allowance, most-tokens, token-length, span-bytes, meant}
 use Rattle.rows.specs.declared.format.Format.{Format}
 use Rattle.rows.specs.Refusals.{refusalOf}
 use Rattle.rows.specs.declared.answer.TypeNameError.the-variants.{FileTooLong, ShortBuffer, OffsetOver32Bits}
@@ -21,11 +21,14 @@ use Rattle.rows.specs.Records.{byte-values, RowToken, row, head, kind-at, lengt
 use Rattle.rows.specs.Laws.Tokens.{formed-fits}
 use Rattle.reader.specs.Nodes.{numbers-per-token}
 use Rattle.type_name.specs.FileRow.{untouched, passes, on-pass, head-read, row-read, with-room, file-row}
-use Rattle.convert.specs.Bytes.{AllBytes}
-use Rattle.convert.specs.Fields.{TokenFields, Fields, token-fields, fields-with, fields-of, file-bytes}
-use Rattle.convert.specs.Conversions.{numbers-32, over-32-bits, old-form, with-output, narrowed, narrow-outcome, convert-answer}
+use Rattle.text.specs.Text.{little-endian-bytes}
+use Rattle.convert.specs.Bytes.{AllBytes, with-byte}
+use Rattle.convert.specs.Standards.{widened-standard, narrowed-standard, returned-standard}
+use Rattle.convert.specs.Fields.{TokenFields, Fields, with-standard, token-fields, fields-with, fields-of, head-bytes, file-bytes}
+use Rattle.convert.specs.Conversions.{widened-fields, narrowed-fields, numbers-32, over-32-bits, old-form, with-output, narrowed, narrow-outcome, convert-answer}
 use Rattle.convert.specs.SameRow.{SameTokens, Alike}
 use Rattle.convert.specs.Promises.{SomeEndOver, NarrowSays}
+use Rattle.convert.specs.Laws.Standards.{widened-means, narrowed-widened, narrowed-means, widened-narrowed, returned-means}
 use Rattle.convert.specs.Laws.Stand.{Stand, StandsAt}
 use Rattle.convert.specs.Laws.OneRecord.{TokenFits, is-ordered, is-worded}
 use Rattle.convert.specs.Laws.Written.{AllFit, FieldsFit, placed, head-meant, written-head, written-row, written-back}
@@ -80,8 +83,8 @@ unfolding over-32-bits
 none-over [] a = refl
 none-over (t ∷ ts) (a, rest) = rw (lt-leb numbers-32 (t .end) (omega (arith, a .narrow)), none-over ts rest) refl
 
--- Fields of a file in one format, which fit the other.
-module _ (f g : Format) (file : List ℕ) (all : AllBytes file) (c : Fields) (e : fields-of f file ≡ passes c) where
+-- The head of a sound file, and that its fields fit another format, with a number there that means the same standard.
+module _ (f : Format) (file : List ℕ) (all : AllBytes file) (c : Fields) (e : fields-of f file ≡ passes c) where
   -- The head behind the fields.
   abbrev its-head : HeadIs f file
   its-head = read-of f file c e .is-head
@@ -89,86 +92,119 @@ module _ (f g : Format) (file : List ℕ) (all : AllBytes file) (c : Fields) (e 
   its-fields : c ≡ fields-with f file (read-of f file c e .row-tokens)
   its-fields = read-of f file c e .fields-are
 
-  head-known : ((language standard : ℕ) → meant g language standard ≡ meant f language standard) → meant g (c .language) (c .standard) ≡ Means (its-head .the-head .standard)
+  pub its-meaning : meant f (c .language) (c .standard) ≡ Means (its-head .the-head .standard)
   unfolding fields-with
-  head-known same =
-      subst (λ (x : Fields). meant g (x .language) (x .standard) ≡ Means (its-head .the-head .standard)) (sym its-fields) (same (getD file at-language 0) (getD file at-standard 0) ∙ its-head .is-meant)
-
-  head-flagged : f .«greatest_flag» ≤ g .«greatest_flag» → c .flag ≤ g .«greatest_flag»
-  unfolding fields-with
-  head-flagged flags = subst (λ (x : Fields). x .flag ≤ g .«greatest_flag») (sym its-fields) (omega (arith, its-head .has-flag, flags))
+  its-meaning = subst (λ (x : Fields). meant f (x .language) (x .standard) ≡ Means (its-head .the-head .standard)) (sym its-fields) (its-head .is-meant)
 
   head-small : c .allowance < byte-values ^ allowance-bytes
   unfolding fields-with
   head-small = subst (λ (x : Fields). x .allowance < byte-values ^ allowance-bytes) (sym its-fields) (number-small allowance-bytes at-allowance file all)
 
   -- The same head, if it means the same standard.
-  pub same-head : record { language = c .language; standard = its-head .the-head .standard; flag = c .flag; allowance = c .allowance } ≡ its-head .the-head
+  same-head : record { language = c .language; standard = its-head .the-head .standard; flag = c .flag; allowance = c .allowance } ≡ its-head .the-head
   unfolding fields-with
   same-head =
       subst (λ (x : Fields). record { language = x .language; standard = its-head .the-head .standard; flag = x .flag; allowance = x .allowance } ≡ its-head .the-head) (sym its-fields)
       (sym (its-head .has-fields))
 
-  abbrev fields-fit : ((language standard : ℕ) → meant g language standard ≡ meant f language standard) → f .«greatest_flag» ≤ g .«greatest_flag» → AllFit g (c .tokens)
-      → length (file-bytes g c) ≤ g .«file_limit» → FieldsFit g c
-  fields-fit same flags fit short =
-      record {
-        meaning = its-head .the-head .standard;
-        known = head-known same;
-        flagged = head-flagged flags;
-        small = head-small;
-        all-fit = fit;
-        few = sound-few f file c e;
-        short = short;
-      }
+  module _ (g : Format) (standard : ℕ) (known : meant g (c .language) standard ≡ Means (its-head .the-head .standard)) where
+    head-flagged : f .«greatest_flag» ≤ g .«greatest_flag» → c .flag ≤ g .«greatest_flag»
+    unfolding fields-with
+    head-flagged flags = subst (λ (x : Fields). x .flag ≤ g .«greatest_flag») (sym its-fields) (omega (arith, its-head .has-flag, flags))
+
+    abbrev fields-fit : f .«greatest_flag» ≤ g .«greatest_flag» → AllFit g (c .tokens) → length (file-bytes g (with-standard standard c)) ≤ g .«file_limit» → FieldsFit g (with-standard standard c)
+    fields-fit flags fit short =
+        record {
+          meaning = its-head .the-head .standard;
+          known = known;
+          flagged = head-flagged flags;
+          small = head-small;
+          all-fit = fit;
+          few = sound-few f file c e;
+          short = short;
+        }
 
 -- ---- an old file, widened
 
-same-meaning : (language standard : ℕ) → meant format language standard ≡ meant old-format language standard
-unfolding meant
-same-meaning language standard = refl
-
 module _ (file : List ℕ) (all : AllBytes file) (c : Fields) (e : fields-of old-format file ≡ passes c) where
   -- Its new form is not longer than this.
-  pub new-long : length (file-bytes format c) ≡ length file + 8 * length (c .tokens)
-  new-long = omega (arith, sound-long old-format file c e, file-long format c)
+  pub new-long : length (file-bytes format (widened-fields c)) ≡ length file + 8 * length (c .tokens)
+  new-long = omega (arith, sound-long old-format file c e, file-long format (widened-fields c))
 
-  abbrev new-fit : FieldsFit format c
+  new-known : meant format (c .language) (widened-standard (c .standard)) ≡ Means (its-head old-format file all c e .the-head .standard)
+  new-known = widened-means (c .language) (c .standard) (its-meaning old-format file all c e)
+
+  abbrev new-fit : FieldsFit format (widened-fields c)
   new-fit =
-      fields-fit old-format format file all c e same-meaning (omega arith) (wider (c .tokens) (sound-fits old-format file all c e))
+      fields-fit old-format file all c e format (widened-standard (c .standard)) new-known (omega arith) (wider (c .tokens) (sound-fits old-format file all c e))
       (omega (arith, new-long, sound-short old-format file c e, sound-few old-format file c e))
 
-  -- "The inverse gives that file back."
-  pub narrowed-back : narrowed (file-bytes format c) ≡ passes file
-  unfolding narrowed on-pass old-form
-  narrowed-back =
+  fields-again : narrowed-fields (widened-fields c) ≡ c
+  fields-again = rw (narrowed-widened (c .language) (c .standard) (its-meaning old-format file all c e)) refl
+
+  old-again : old-form c ≡ passes file
+  unfolding old-form
+  old-again =
       let read = read-of old-format file c e in
       let back : file-bytes old-format c ≡ file = ap (file-bytes old-format) (read .fields-are) ∙ file-back old-format file all (read .is-head) (read .row-tokens) (read .stand) in
-      rw (written-back format c (omega arith) new-fit, on-pass, none-over (c .tokens) (sound-fits old-format file all c e), back, le-ltb (old-format .«file_limit») (length file) (sound-short old-format file c e)) refl
+      rw (none-over (c .tokens) (sound-fits old-format file all c e), back, le-ltb (old-format .«file_limit») (length file) (sound-short old-format file c e)) refl
+
+  -- "The inverse gives that file back."
+  pub narrowed-back : narrowed (file-bytes format (widened-fields c)) ≡ passes file
+  unfolding narrowed on-pass
+  narrowed-back = rw (written-back format (widened-fields c) (omega arith) new-fit, on-pass) (ap old-form fields-again ∙ old-again)
 
 -- ---- a new file, narrowed
 
-module _ (file : List ℕ) (all : AllBytes file) (c : Fields) (e : fields-of format file ≡ passes c) (narrow : over-32-bits (c .tokens) ≡ false)
-    (short : length (file-bytes old-format c) ≤ old-format .«file_limit») where
-  old-fit : FieldsFit old-format c
-  old-fit = fields-fit format old-format file all c e (λ language standard. sym (same-meaning language standard)) (omega arith) (narrower (c .tokens) narrow (sound-fits format file all c e)) short
-
-  -- Its old form has the same fields,
-  pub old-fields : fields-of old-format (file-bytes old-format c) ≡ passes c
-  old-fields = written-back old-format c (omega arith) old-fit
-
-  -- and these make the file that was narrowed.
+module _ (file : List ℕ) (all : AllBytes file) (c : Fields) (e : fields-of format file ≡ passes c) where
+  -- The fields that make the file.
   pub same-file : file-bytes format c ≡ file
   same-file =
       let read = read-of format file c e in
       ap (file-bytes format) (read .fields-are) ∙ file-back format file all (read .is-head) (read .row-tokens) (read .stand)
 
+  -- The number that comes back for the standard,
+  abbrev pub standard-back : ℕ
+  standard-back = returned-standard (c .language) (c .standard)
+
+  -- and all fields.
+  pub fields-returned : widened-fields (narrowed-fields c) ≡ with-standard standard-back c
+  fields-returned = rw (widened-narrowed (c .language) (c .standard) (its-meaning format file all c e)) refl
+
+  pub meaning-returned : meant format (c .language) standard-back ≡ Means (its-head format file all c e .the-head .standard)
+  meaning-returned = returned-means (c .language) (c .standard) (its-meaning format file all c e)
+
+  pub returned-long : length (file-bytes format (with-standard standard-back c)) ≡ length file
+  returned-long = omega (arith, sound-long format file c e, file-long format (with-standard standard-back c))
+
+  -- Byte for byte the file that was narrowed, but for the standard's.
+  pub returned-bytes : file-bytes format (with-standard standard-back c) ≡ with-byte at-standard standard-back file
+  unfolding file-bytes head-bytes little-endian-bytes with-byte
+  returned-bytes = one-byte ∙ ap (with-byte at-standard standard-back) same-file
+    where
+      one-byte : file-bytes format (with-standard standard-back c) ≡ with-byte at-standard standard-back (file-bytes format c)
+      one-byte = refl
+
+  abbrev returned-fit : FieldsFit format (with-standard standard-back c)
+  returned-fit =
+      fields-fit format file all c e format standard-back meaning-returned (omega arith) (sound-fits format file all c e) (omega (arith, returned-long, sound-short format file c e))
+
+  module _ (narrow : over-32-bits (c .tokens) ≡ false) (short : length (file-bytes old-format (narrowed-fields c)) ≤ old-format .«file_limit») where
+    old-fit : FieldsFit old-format (narrowed-fields c)
+    old-fit =
+        fields-fit format file all c e old-format (narrowed-standard (c .language) (c .standard)) (narrowed-means (c .language) (c .standard) (its-meaning format file all c e)) (omega arith)
+        (narrower (c .tokens) narrow (sound-fits format file all c e)) short
+
+    -- Its old form has these fields.
+    pub old-fields : fields-of old-format (file-bytes old-format (narrowed-fields c)) ≡ passes (narrowed-fields c)
+    old-fields = written-back old-format (narrowed-fields c) (omega arith) old-fit
+
 -- ---- the same head and row
 
-same-placed : (file : List ℕ) (f : Format) (at : ℕ) (ts : List RowToken) → SameTokens (placed f at (map (token-fields old-format file) ts)) ts
+same-placed : (f g : Format) (file : List ℕ) (at : ℕ) (ts : List RowToken) → SameTokens (placed g at (map (token-fields f file) ts)) ts
 unfolding placed token-fields
-same-placed file f at [] = tt
-same-placed file f at (t ∷ ts) = (refl, refl, same-placed file f (at + (token-length f + length (t .word))) ts)
+same-placed f g file at [] = tt
+same-placed f g file at (t ∷ ts) = (refl, refl, same-placed f g file (at + (token-length g + length (t .word))) ts)
 
 with-room-alike : (room : ℕ) (h h′ : Head) (ts ts′ : List RowToken) → h ≡ h′ → SameTokens ts ts′ → Alike (with-room room h ts) (with-room room h′ ts′)
 unfolding with-room
@@ -184,21 +220,31 @@ row-of-file : (f : Format) (file : List ℕ) (h : Head) (ts : List RowToken) (ro
 unfolding file-row on-pass head-read row-read
 row-of-file f file h ts room p q = rw (p, q, head-read, row-read, on-pass) refl
 
-module _ (file : List ℕ) (all : AllBytes file) (c : Fields) (e : fields-of old-format file ≡ passes c) where
-  pub same-row : (room : ℕ) → Alike (file-row format (file-bytes format c) room) (file-row old-format file room)
+-- A sound file in a format, and the file of its fields in `format`, with a number there that means the same standard.
+module _ (f : Format) (file : List ℕ) (all : AllBytes file) (c : Fields) (e : fields-of f file ≡ passes c) (standard : ℕ) (fit : FieldsFit format (with-standard standard c))
+    (same : fit .meaning ≡ its-head f file all c e .the-head .standard) where
+  same-row : (room : ℕ) → Alike (file-row format (file-bytes format (with-standard standard c)) room) (file-row f file room)
   unfolding fields-with
   same-row room =
-      let read = read-of old-format file c e in
+      let read = read-of f file c e in
       let is = read .is-head in
-      let fit = new-fit file all c e in
       let tokens-same : SameTokens (placed format head-length (c .tokens)) (read .row-tokens)
-      = subst (λ (x : Fields). SameTokens (placed format head-length (x .tokens)) (read .row-tokens)) (sym (read .fields-are)) (same-placed file format head-length (read .row-tokens)) in
-      let head-same : head-meant format c (omega arith) fit ≡ is .the-head = same-head old-format format file all c e in
+      = subst (λ (x : Fields). SameTokens (placed format head-length (x .tokens)) (read .row-tokens)) (sym (read .fields-are)) (same-placed f format file head-length (read .row-tokens)) in
+      let head-same : head-meant format (with-standard standard c) (omega arith) fit ≡ is .the-head = rw same (same-head f file all c e) in
       rw (
-        row-of-file format (file-bytes format c) (head-meant format c (omega arith) fit) (placed format head-length (c .tokens)) room (written-head format c (omega arith) fit) (written-row format c (omega arith) fit),
-        row-of-file old-format file (is .the-head) (read .row-tokens) room (is .is-head) (read .is-row),
+        row-of-file format (file-bytes format (with-standard standard c)) (head-meant format (with-standard standard c) (omega arith) fit) (placed format head-length (c .tokens)) room
+            (written-head format (with-standard standard c) (omega arith) fit) (written-row format (with-standard standard c) (omega arith) fit),
+        row-of-file f file (is .the-head) (read .row-tokens) room (is .is-head) (read .is-row),
       )
-      (with-room-alike room (head-meant format c (omega arith) fit) (is .the-head) (placed format head-length (c .tokens)) (read .row-tokens) head-same tokens-same)
+      (with-room-alike room (head-meant format (with-standard standard c) (omega arith) fit) (is .the-head) (placed format head-length (c .tokens)) (read .row-tokens) head-same tokens-same)
+
+pub widened-row : (file : List ℕ) (all : AllBytes file) (c : Fields) → fields-of old-format file ≡ passes c
+    → (room : ℕ) → Alike (file-row format (file-bytes format (widened-fields c)) room) (file-row old-format file room)
+widened-row file all c e = same-row old-format file all c e (widened-standard (c .standard)) (new-fit file all c e) refl
+
+pub returned-row : (file : List ℕ) (all : AllBytes file) (c : Fields) (e : fields-of format file ≡ passes c)
+    → (room : ℕ) → Alike (file-row format (file-bytes format (with-standard (standard-back file all c e) c)) room) (file-row format file room)
+returned-row file all c e = same-row format file all c e (standard-back file all c e) (returned-fit file all c e) refl
 
 -- ---- what `narrow` answers to a sound file
 
@@ -257,7 +303,7 @@ not-over ts d = by-over (over-32-bits ts) refl
 
 module _ (file : List ℕ) (c : Fields) (e : fields-of format file ≡ passes c) (room : ℕ) where
   abbrev old : List ℕ
-  old = file-bytes old-format c
+  old = file-bytes old-format (narrowed-fields c)
 
   by-tests : (over long : Bool) → convert-answer (on-pass (if over then untouched OffsetOver32Bits else if long then untouched FileTooLong else passes old) (λ bytes. with-output room bytes))
       ≡ answer-by over long (ltb room (length old)) (length old)
@@ -274,7 +320,7 @@ module _ (file : List ℕ) (c : Fields) (e : fields-of format file ≡ passes c)
   unfolding narrow-outcome narrowed on-pass old-form
   answered = rw (e, on-pass) (by-tests (over-32-bits (c .tokens)) (ltb (old-format .«file_limit») (length old)))
 
-  pub narrow-says : NarrowSays c room (convert-answer (narrow-outcome file room))
+  pub narrow-says : NarrowSays (narrowed-fields c) room (convert-answer (narrow-outcome file room))
   narrow-says =
       let limit : ℕ = old-format .«file_limit» in
       rw answered record {

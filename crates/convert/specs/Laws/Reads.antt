@@ -31,7 +31,7 @@ pub record Read (f : Format) (file : List ℕ) (c : Fields) : Type 0 where
   pub stand : Stand f file head-length row-tokens
   pub fields-are : c ≡ fields-with f file row-tokens
 
-refused-not : {A : Type 0} {e : TypeNameError} {a : A} → untouched e ≡ passes a → ⊥
+pub refused-not : {A : Type 0} {e : TypeNameError} {a : A} → untouched e ≡ passes a → ⊥
 refused-not {A} {e} {a} q = let z : _≡_ {A = ℕ} 0 1 = ap which q in omega (arith, z)
   where
     which : Outcome A → ℕ

@@ -6,7 +6,7 @@ use mathlib.Core.List.{List, [], _∷_, _++_, map, append-assoc, append-nil}
 use native.Mathlib.Omega.{arith}
 use lib.ListN.{length, getD, length-append}
 use borrow.Author.Tests.{lt-ltb, le-ltb}
-use Rattle.rows.specs.Format.{allowance-bytes, at-allowance, at-flag, at-language, at-standard, head-length, token-length}
+use Rattle.rows.specs.Format.{allowance-bytes, at-allowance, at-flag, at-language, head-length, token-length}
 use Rattle.rows.specs.declared.format.Format.{Format}
 use Rattle.rows.specs.declared.answer.TypeNameError.the-variants.{ShortBuffer}
 use Rattle.rows.specs.Records.{RowToken, little-endian, kind-at, length-at}
@@ -111,10 +111,10 @@ module _ (from to : Format) (file output₀ : List ℕ) (begin : ℕ) where
 
 -- ---- the whole file
 
-module _ (from to : Format) (file output₀ : List ℕ) where
+module _ (from to : Format) (standard : ℕ) (file output₀ : List ℕ) where
   -- What is to be written.
   abbrev whole-file : List ℕ
-  whole-file = bytes-in to (fields-of from file)
+  whole-file = bytes-in to standard (fields-of from file)
 
   -- A sound file has a head.
   pub sound-long : IsSound from file → head-length ≤ length file
@@ -125,18 +125,18 @@ module _ (from to : Format) (file output₀ : List ℕ) where
   file-long c e = rw (e, bytes-in, records-in) (omega arith)
 
   -- So has what is written of it.
-  pub room-for-head : FileReady from to file output₀ → head-length ≤ length output₀
+  pub room-for-head : FileReady from to standard file output₀ → head-length ≤ length output₀
   room-for-head ready = omega (arith, file-long (ready .sound .fields) (ready .sound .is), ready .room)
 
   -- The head record of the file in the other format.
   abbrev its-head : List ℕ
-  its-head = head-bytes to (getD file at-language 0) (getD file at-standard 0) (getD file at-flag 0) (little-endian allowance-bytes file at-allowance)
+  its-head = head-bytes to (getD file at-language 0) standard (getD file at-flag 0) (little-endian allowance-bytes file at-allowance)
 
   head-long : length its-head ≡ head-length
   unfolding head-bytes little-endian-bytes
   head-long = refl
 
-  pub records-ready : {begin : ℕ} {output : List ℕ} → FileReady from to file output₀ → length output ≡ length output₀ → Appended output₀ 0 its-head begin output
+  pub records-ready : {begin : ℕ} {output : List ℕ} → FileReady from to standard file output₀ → length output ≡ length output₀ → Appended output₀ 0 its-head begin output
       → RecordsReady from to file output begin
   records-ready ready kept put = record {
     sound = ready .sound;

@@ -10,16 +10,16 @@ use Rattle.convert.proofs.write.put_head.Reads as put-head-reads
 use Rattle.convert.proofs.write.put_records.Reads as put-records-reads
 
 put-head-requires : tie.Need-put-head-requires
-put-head-requires c κs = (sound-long (c .before .before .before .args .from) (c .before .before .before .args .to) _ (c .before .before .before .args .output .now) (c .before .before .before .pre .sound), room-for-head (c .before .before .before .args .from) (c .before .before .before .args .to) _ _ (c .before .before .before .pre))
+put-head-requires c κs = (sound-long (c .before .before .before .args .from) (c .before .before .before .args .to) (c .before .before .before .args .standard) _ (c .before .before .before .args .output .now) (c .before .before .before .pre .sound), room-for-head (c .before .before .before .args .from) (c .before .before .before .args .to) (c .before .before .before .args .standard) _ _ (c .before .before .before .pre))
 
 put-records-requires : tie.Need-put-records-requires
-put-records-requires c κs = records-ready (c .before .before .before .before .before .before .before .args .from) (c .before .before .before .before .before .before .before .args .to) _ _ (c .before .before .before .before .before .before .before .pre) (c .before .before .before .put-head .kept .1 .1 .0) (c .before .before .before .put-head .ensures)
+put-records-requires c κs = records-ready (c .before .before .before .before .before .before .before .args .from) (c .before .before .before .before .before .before .before .args .to) (c .before .before .before .before .before .before .before .args .standard) _ _ (c .before .before .before .before .before .before .before .pre) (c .before .before .before .put-head .kept .1 .1 .1 .0) (c .before .before .before .put-head .ensures)
 
 same-length : tie.Need-same-length
 same-length c = search needs
 
 returns : tie.Need-returns
-returns c = file-put (c .before .before .before .before .before .before .before .before .before .before .args .from) (c .before .before .before .before .before .before .before .before .before .before .args .to) _ _ (c .before .before .before .before .before .before .before .before .before .before .pre .sound) (c .before .before .before .before .before .before .put-head .ensures) (c .before .before .put-records .ensures)
+returns c = file-put (c .before .before .before .before .before .before .before .before .before .before .args .from) (c .before .before .before .before .before .before .before .before .before .before .args .to) (c .before .before .before .before .before .before .before .before .before .before .args .standard) _ _ (c .before .before .before .before .before .before .before .before .before .before .pre .sound) (c .before .before .before .before .before .before .put-head .ensures) (c .before .before .put-records .ensures)
 
 pub put-file-spec : {M : Type 1} → statement M
 put-file-spec = tie.close (tie.spec put-head-requires put-records-requires same-length returns)

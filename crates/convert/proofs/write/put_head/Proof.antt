@@ -26,30 +26,27 @@ shared-slice-read-put-byte c = omega (arith, c .before .before .before .before .
 put-byte-requires : tie.Need-put-byte-requires
 put-byte-requires c κs = omega (arith, c .before .before .before .before .before .before .before .before .before .before .before .before .pre .1, bytes-long short-bytes head-length, bytes-long short-bytes (c .before .before .before .before .before .before .before .before .before .before .before .before .args .to .«head_kind»))
 
-shared-slice-read-put-byte-2 : tie.Need-shared-slice-read-put-byte-2
-shared-slice-read-put-byte-2 c = omega (arith, c .before .before .before .before .before .before .before .before .before .before .before .before .before .before .before .before .before .pre .0)
-
 put-byte-requires-2 : tie.Need-put-byte-requires-2
-put-byte-requires-2 c κs = omega (arith, c .before .before .before .before .before .before .before .before .before .before .before .before .before .before .before .before .before .pre .1, bytes-long short-bytes head-length, bytes-long short-bytes (c .before .before .before .before .before .before .before .before .before .before .before .before .before .before .before .before .before .args .to .«head_kind»))
+put-byte-requires-2 c κs = omega (arith, c .before .before .before .before .before .before .before .before .before .before .before .before .before .before .before .before .pre .1, bytes-long short-bytes head-length, bytes-long short-bytes (c .before .before .before .before .before .before .before .before .before .before .before .before .before .before .before .before .args .to .«head_kind»))
 
-shared-slice-read-put-byte-3 : tie.Need-shared-slice-read-put-byte-3
-shared-slice-read-put-byte-3 c = omega (arith, c .before .before .before .before .before .before .before .before .before .before .before .before .before .before .before .before .before .before .before .before .before .before .pre .0)
+shared-slice-read-put-byte-2 : tie.Need-shared-slice-read-put-byte-2
+shared-slice-read-put-byte-2 c = omega (arith, c .before .before .before .before .before .before .before .before .before .before .before .before .before .before .before .before .before .before .before .before .before .pre .0)
 
 put-byte-requires-3 : tie.Need-put-byte-requires-3
-put-byte-requires-3 c κs = omega (arith, c .before .before .before .before .before .before .before .before .before .before .before .before .before .before .before .before .before .before .before .before .before .before .pre .1, bytes-long short-bytes head-length, bytes-long short-bytes (c .before .before .before .before .before .before .before .before .before .before .before .before .before .before .before .before .before .before .before .before .before .before .args .to .«head_kind»))
+put-byte-requires-3 c κs = omega (arith, c .before .before .before .before .before .before .before .before .before .before .before .before .before .before .before .before .before .before .before .before .before .pre .1, bytes-long short-bytes head-length, bytes-long short-bytes (c .before .before .before .before .before .before .before .before .before .before .before .before .before .before .before .before .before .before .before .before .before .args .to .«head_kind»))
 
 four-bytes-requires : tie.Need-four-bytes-requires
-four-bytes-requires c κs = omega (arith, c .before .before .before .before .before .before .before .before .before .before .before .before .before .before .before .before .before .before .before .before .before .before .before .before .before .before .pre .0)
+four-bytes-requires c κs = omega (arith, c .before .before .before .before .before .before .before .before .before .before .before .before .before .before .before .before .before .before .before .before .before .before .before .before .before .pre .0)
 
 put-little-endian-requires-3 : tie.Need-put-little-endian-requires-3
-put-little-endian-requires-3 c κs = omega (arith, c .before .before .before .before .before .before .before .before .before .before .before .before .before .before .before .before .before .before .before .before .before .before .before .before .before .before .before .pre .1, bytes-long short-bytes head-length, bytes-long short-bytes (c .before .before .before .before .before .before .before .before .before .before .before .before .before .before .before .before .before .before .before .before .before .before .before .before .before .before .before .args .to .«head_kind»))
+put-little-endian-requires-3 c κs = omega (arith, c .before .before .before .before .before .before .before .before .before .before .before .before .before .before .before .before .before .before .before .before .before .before .before .before .before .before .pre .1, bytes-long short-bytes head-length, bytes-long short-bytes (c .before .before .before .before .before .before .before .before .before .before .before .before .before .before .before .before .before .before .before .before .before .before .before .before .before .before .args .to .«head_kind»))
 
 same-length : tie.Need-same-length
 same-length c = search needs
 
 returns : tie.Need-returns
 unfolding head-bytes
-returns c = appended-then (appended-then (appended-then (appended-then (appended-then (c .before .before .before .before .before .before .before .before .before .before .before .before .before .before .before .before .before .before .before .before .before .before .before .before .before .before .put-little-endian .ensures) (c .before .before .before .before .before .before .before .before .before .before .before .before .before .before .before .before .before .before .before .before .before .before .put-little-endian2 .ensures)) (c .before .before .before .before .before .before .before .before .before .before .before .before .before .before .before .before .before .put-byte .ensures)) (c .before .before .before .before .before .before .before .before .before .before .before .before .put-byte2 .ensures)) (c .before .before .before .before .before .before .before .put-byte3 .ensures)) (rw (c .before .before .before .four-bytes .ensures .0) at (c .before .before .put-little-endian3 .ensures))
+returns c = appended-then (appended-then (appended-then (appended-then (appended-then (c .before .before .before .before .before .before .before .before .before .before .before .before .before .before .before .before .before .before .before .before .before .before .before .before .before .put-little-endian .ensures) (c .before .before .before .before .before .before .before .before .before .before .before .before .before .before .before .before .before .before .before .before .before .put-little-endian2 .ensures)) (c .before .before .before .before .before .before .before .before .before .before .before .before .before .before .before .before .put-byte .ensures)) (c .before .before .before .before .before .before .before .before .before .before .before .before .put-byte2 .ensures)) (c .before .before .before .before .before .before .before .put-byte3 .ensures)) (rw (c .before .before .before .four-bytes .ensures .0) at (c .before .before .put-little-endian3 .ensures))
 
 pub put-head-spec : {M : Type 1} → statement M
 put-head-spec =
@@ -59,9 +56,8 @@ put-head-spec =
     put-little-endian-requires-2
     shared-slice-read-put-byte
     put-byte-requires
-    shared-slice-read-put-byte-2
     put-byte-requires-2
-    shared-slice-read-put-byte-3
+    shared-slice-read-put-byte-2
     put-byte-requires-3
     four-bytes-requires
     put-little-endian-requires-3
