@@ -82,12 +82,12 @@ UNITS = {
 class Search:
     def __init__(self, name, language, letters, longest, units, prefix='', suffix='', standards=None, respell=None):
         """units: the first is the place of a type name and is asked in every standard, the others are places in which more is accepted,
-        asked in the standard that 255 means. respell: a word as gcc gets it."""
+        asked in the standard that 254 means. respell: a word as gcc gets it."""
         self.name, self.language, self.letters, self.longest, self.units = name, language, letters.split(), longest, units
         self.prefix, self.suffix, self.standards, self.respell = prefix.split(), suffix.split(), standards, respell
 
 
-MEANT = {'c': 3, 'cpp': 3, 'fortran': 5}
+ARCHIVE = {'c': 3, 'cpp': 3, 'fortran': 5}  # C18, C++17, Fortran 2018: the standards that 254 means
 INNER = {'cpp-argument'}  # is given the letters alone
 SEARCHES = [
     Search('C, whole rows', 'c', 'int long void const struct A a q static * , 3 ... ( ) [ ]', 5, ['c-name', 'c-parameter', 'c-cast']),

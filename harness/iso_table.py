@@ -51,10 +51,10 @@ reader. For that the alphabets have names of each kind: in C `A` is a type and a
 `s` an object, `g` a function, `k` a constant function; in Fortran `lane`, `bag` and `tray` are derived types (without, with a length and with a kind parameter), `a` is a
 constant, `v` a constant array, `w` a string, `int` the function (`harness/iso_searches.py`). Keywords, intrinsic types and `kind` and `len` are no names in this.
 
-clang and gfortran were asked about all rows in the first standard that they have, in the one that 255 means and in the last; in the standards between, and gcc in all
+clang and gfortran were asked about all rows in the first standard that they have, in the one that 254 means (C18, C++17, Fortran 2018) and in the last; in the standards between, and gcc in all
 of them, about the rows that the reader or a compiler accepts. The first place named is that of a type name (an argument list between `A <` and `>`); the other places, in which ISO may accept more, got
-the rows of up to four letters in the standard that 255 means. One error can hide another, or make one, so rows without an error were compiled again without the others until
-none was left, and in C and C++, in the standard that 255 means, rows with one a second time, in the other order. Fortran rows that begin with `type` and no parenthesis were
+the rows of up to four letters in the standard that 254 means. One error can hide another, or make one, so rows without an error were compiled again without the others until
+none was left, and in C and C++, in the standard that 254 means, rows with one a second time, in the other order. Fortran rows that begin with `type` and no parenthesis were
 not given to the compiler, where they would begin a definition; the reader refuses them all.
 
 A row differs in a standard if the reader accepts it and a compiler does not, or the reader refuses it and a compiler accepts it; "Differ" counts rows to the reader, once for each

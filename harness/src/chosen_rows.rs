@@ -14,7 +14,9 @@ use crate::generate::{Case, DEFAULT_ALLOWANCE};
 use crate::kind::Kind;
 use crate::lexed;
 use crate::oracle;
-use crate::profile::{self, HostLanguage, LANGUAGES, MEANT_STANDARD, language_number};
+use crate::profile::{
+    self, ARCHIVE_STANDARD, HostLanguage, LANGUAGES, NEWER_STANDARD, language_number,
+};
 
 /// Read in C++, without and with the structure check: what brackets and
 /// angles come to.
@@ -75,12 +77,22 @@ const FORTRAN_AS_CPP: &[&str] = &["real(a?b:c)", "real(a?(b))", "real(a<b)"];
 #[rustfmt::skip]
 const PROFILES: &[(HostLanguage, &str)] = &[
     (C, "long long"), (C, "LONG Long"), (C, "long a"), (C, "_Atomic(8)"), (C, "_BitInt(8)"), (C, "_bITiNT(8)"), (C, "typeof(8)"),
-    (C, "typeof_unqual(8)"), (C, "typeof(long long)"), (C, "decltype(8)"), (C, "_Atomic"), (C, "typeof a(8)"),
-    (Cpp, "long long"), (Cpp, "decltype(8)"), (Cpp, "a&&"), (Cpp, "a&"), (Cpp, "decltype(long long)&&"),
+    (C, "typeof_unqual(8)"), (C, "typeof(long long)"), (C, "_Atomic(long long)"), (C, "decltype(8)"), (C, "_Atomic"), (C, "typeof a(8)"),
+    (Cpp, "long long"), (Cpp, "decltype(8)"), (Cpp, "a&&"), (Cpp, "a&"), (Cpp, "decltype(8)&&"), (Cpp, "decltype(long long)&&"),
     (Fortran, "long long"), (Fortran, "a(b=c)"), (Fortran, "a(b==c)"), (Fortran, "type(a)"), (Fortran, "type(*)"),
     (Fortran, "class(a)"), (Fortran, "class(*)"), (Fortran, "a(..)"), (Fortran, "a(b..)"), (Fortran, "a(..b)"),
     (Fortran, "type a*8"), (Fortran, "type(a=b)"),
     (Fortran, "class(a=b)"), (Fortran, "class(..)"),
+];
+
+/// Read under 254, 255 and the number before them, with the structure check:
+/// what C18 lacks and C23 has, and what the two standards that these numbers
+/// mean in C++ and in Fortran, between which no feature is new, both have.
+#[rustfmt::skip]
+const BEYOND_DECLARED: &[(HostLanguage, &str)] = &[
+    (C, "_BitInt(8)"), (C, "unsigned _BitInt(8)"), (C, "typeof(int)"), (C, "typeof_unqual(int)"), (C, "_Atomic(int)"), (C, "int"),
+    (Cpp, "long long"), (Cpp, "decltype(x)&&"), (Cpp, "A<B<c>>"), (Cpp, "A<b"),
+    (Fortran, "real(kind=8)"), (Fortran, "type(*)"), (Fortran, "class(*)"), (Fortran, "character*(*)"),
 ];
 
 /// The same for Fortran, lexed as C++: Fortran's dots belong to operators.
@@ -107,6 +119,7 @@ pub fn cases() -> Vec<Case> {
         fortran(),
         fortran_as_cpp(),
         profiles(),
+        beyond_declared(),
     ];
     let others = [
         builtin_words(),
@@ -123,7 +136,7 @@ pub fn cases() -> Vec<Case> {
 fn head(language: HostLanguage, flag: u8) -> Head {
     Head {
         language: language_number(language),
-        standard: MEANT_STANDARD,
+        standard: NEWER_STANDARD,
         flag,
         allowance: DEFAULT_ALLOWANCE,
     }
@@ -138,7 +151,7 @@ fn case(head: Head, tokens: Vec<Token>) -> Case {
 /// The tokens of a text; C rows are lexed as C++, which has all their tokens.
 fn lex(text: &str, language: HostLanguage) -> Vec<Token> {
     let lexing = if language == C { Cpp } else { language };
-    let profile = profile::profile(lexing, MEANT_STANDARD).expect("a known standard");
+    let profile = profile::profile(lexing, NEWER_STANDARD).expect("a known standard");
     lexed::tokens(text, profile).unwrap_or_else(|error| panic!("`{text}`: {error}"))
 }
 
@@ -225,6 +238,19 @@ fn profiles() -> Vec<Case> {
         })
     };
     rows.chain(as_cpp).flat_map(under_each).collect()
+}
+
+fn beyond_declared() -> Vec<Case> {
+    let under_each = |&(language, text): &(HostLanguage, _)| {
+        [ARCHIVE_STANDARD - 1, ARCHIVE_STANDARD, NEWER_STANDARD].map(|standard| {
+            let head = Head {
+                standard,
+                ..head(language, 1)
+            };
+            case(head, lex(text, language))
+        })
+    };
+    BEYOND_DECLARED.iter().flat_map(under_each).collect()
 }
 
 /// Each builtin type word with itself and with each later one.
@@ -350,7 +376,7 @@ fn files() -> Vec<Case> {
     // The head's length, kind, language, standard, flag; a record's length and kind.
     let faults = [
         (0, 10), (0, 12), (1, 1), (2, 0), (2, 4), (2, 6), (3, 0), (3, 2), (LANGUAGE_AT, 3), (STANDARD_AT, 4), (STANDARD_AT, 5),
-        (STANDARD_AT, 254), (FLAG_AT, 2), (last, 12), (last, 19), (last, 21), (last + 1, 1), (last + 2, 57), (last + 2, 58),
+        (STANDARD_AT, 253), (FLAG_AT, 2), (last, 12), (last, 19), (last, 21), (last + 1, 1), (last + 2, 57), (last + 2, 58),
         (last + 3, 1),
     ];
     cases.extend(faults.map(|(at, byte)| with(at, byte)));

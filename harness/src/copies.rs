@@ -5,6 +5,7 @@ use crate::answer::Refusal;
 use crate::format::Row;
 use crate::host::lexer::TokenKind;
 use crate::kind::Kind;
+use crate::profile::HostLanguageProfile;
 use crate::source::Span;
 use crate::steps;
 use crate::stub::{TEXT, hand_over, listed};
@@ -15,16 +16,17 @@ pub type Outcome = Result<Vec<Node>, Refusal>;
 
 /// The outcome by the counted copy, `None` where the step count would pass
 /// the row's allowance, and the steps taken.
-pub fn read(row: &Row) -> (Option<Outcome>, u32) {
+pub fn read(row: &Row, profile: HostLanguageProfile) -> (Option<Outcome>, u32) {
     let tokens = originals(row);
-    steps::within(row.head.allowance, || counted::read(row, &tokens))
+    steps::within(row.head.allowance, || counted::read(row, profile, &tokens))
 }
 
 /// Whether both copies say the same of a row, `None` where the unchanged one
 /// cannot be run.
 pub fn agree(row: &Row) -> Option<bool> {
-    let (outcome, _) = read(row);
-    outcome.map(|outcome| outcome == unchanged::read(row, &originals(row)))
+    let profile = row.profile();
+    let (outcome, _) = read(row, profile);
+    outcome.map(|outcome| outcome == unchanged::read(row, profile, &originals(row)))
 }
 
 fn originals(row: &Row) -> Vec<TokenKind> {
@@ -50,9 +52,8 @@ macro_rules! reading_with {
                 }
             }
 
-            pub fn read(row: &Row, tokens: &[TokenKind]) -> Outcome {
+            pub fn read(row: &Row, profile: HostLanguageProfile, tokens: &[TokenKind]) -> Outcome {
                 hand_over(listed(tokens.iter().cloned()));
-                let profile = row.profile();
                 let read = match row.head.flag {
                     0 => TypeName::parse_extension_with_profile(&TEXT, profile),
                     _ => TypeName::parse_with_profile(&TEXT, profile),

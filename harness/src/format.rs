@@ -3,15 +3,19 @@
 //! harness, which knows nothing of the proved reader; `tools/numbers` holds
 //! them to the proved definitions.
 //!
-//! Document 02's request C-14 has widened spans. Rows are read and written in
-//! that format unless a `Format` is named; the one before it, which only
-//! conversions know, is `Format::old`.
+//! Document 02's request C-14 has widened spans, and C-16 has given standards
+//! 254 and 255 their meanings. Rows are read and written in that format unless
+//! a `Format` is named; the one before it, which only conversions know, is
+//! `Format::old`. A head's standard is the file's number, whatever it means
+//! there.
 
 use std::ops::RangeInclusive;
 
 use crate::answer::Refusal;
 use crate::kind::Kind;
-use crate::profile::{self, HostLanguageProfile};
+use crate::profile::{
+    self, ARCHIVE_STANDARD, HostLanguageProfile, NEWER_STANDARD, OLD_ARCHIVE_STANDARD,
+};
 
 pub const MOST_BYTES: usize = 131_072;
 pub const HEAD_LENGTH: usize = 11;
@@ -49,6 +53,10 @@ pub struct Format {
     /// Without a word; half of what stands behind length and kind is a span's
     /// start, half its end.
     pub token_length: usize,
+    /// The standard number that means C23, Cpp23 or Fortran2023.
+    pub newer_standard: Option<u8>,
+    /// The one that means C18, Cpp17 or Fortran2018.
+    pub archive_standard: u8,
 }
 
 #[derive(Debug, Clone, Copy, PartialEq, Eq)]
@@ -84,6 +92,8 @@ impl Format {
             most_bytes: MOST_BYTES,
             head_kind: HEAD_KIND,
             token_length: TOKEN_LENGTH,
+            newer_standard: Some(NEWER_STANDARD),
+            archive_standard: ARCHIVE_STANDARD,
         }
     }
 
@@ -93,6 +103,8 @@ impl Format {
             most_bytes: OLD_MOST_BYTES,
             head_kind: OLD_HEAD_KIND,
             token_length: OLD_TOKEN_LENGTH,
+            newer_standard: None,
+            archive_standard: OLD_ARCHIVE_STANDARD,
         }
     }
 
@@ -153,7 +165,7 @@ impl Head {
         if usize::from(length) != HEAD_LENGTH || kind != format.head_kind || flag > GREATEST_FLAG {
             return Err(Refusal::plain(Refusal::INVALID_HEAD));
         }
-        if profile::numbered(language, standard).is_none() {
+        if profile::numbered_in(format, language, standard).is_none() {
             return Err(Refusal::plain(Refusal::UNKNOWN_PROFILE));
         }
         Ok(Self {
@@ -241,6 +253,12 @@ impl Row {
 
     /// The profile that the head's numbers mean.
     pub fn profile(&self) -> HostLanguageProfile {
-        profile::numbered(self.head.language, self.head.standard).expect("a profile of the head")
+        self.profile_in(Format::current())
+    }
+
+    /// The same for a row that was read in this format.
+    pub fn profile_in(&self, format: Format) -> HostLanguageProfile {
+        let head = self.head;
+        profile::numbered_in(format, head.language, head.standard).expect("a profile of the head")
     }
 }

@@ -11,8 +11,8 @@
 //! program replays, `token_list` is the original for measuring, `rules` and
 //! `lists` are models of rule tables and of several types in one row (document
 //! 02, C-11 and C-12) on top of `oracle`, `conversions` is one of the
-//! conversions between formats (C-14), `outer` one of the outer template by
-//! extents (C-15).
+//! conversions between formats (C-14, C-16), `outer` one of the outer template
+//! by extents (C-15).
 
 pub mod answer;
 pub mod chosen_rows;

@@ -7,7 +7,7 @@ use harness::format::{Head, NODE_WIDTH, Row};
 use harness::generate::{self, Case};
 use harness::listing::listing_of;
 use harness::oracle;
-use harness::profile::{self, HostLanguage, MEANT_STANDARD};
+use harness::profile::{self, HostLanguage, NEWER_STANDARD};
 use harness::{answer::Answer, lexed, replay, worked_rows};
 
 const HELP: &str = "\
@@ -17,7 +17,8 @@ listing
     Reads a row file from standard input and prints its listing.
 row --language c|cpp|fortran [--standard N] [--flag N] [--allowance N] TEXT
     Writes the row file of a type name's text to standard output.
-    Standard 255, flag 1 and allowance 1000000 unless given.
+    Standard 255 (C23, C++23, Fortran 2023), flag 1 and allowance 1000000 unless
+    given; 254 is C18, C++17 or Fortran 2018.
 answers --seed S --count N [--style NAME]
     Prints generated cases, one a line: the file in hexadecimal (`-` if it is
     empty), the length of the tree buffer, the answer as a listing's first
@@ -75,7 +76,7 @@ fn write_row(arguments: &[String]) -> Done {
         Some("fortran") => HostLanguage::Fortran,
         _ => return Err("row needs --language c, cpp or fortran".to_owned()),
     };
-    let standard = options.number("--standard", Some(MEANT_STANDARD))?;
+    let standard = options.number("--standard", Some(NEWER_STANDARD))?;
     let profile = profile::profile(language, standard).ok_or("no such standard")?;
     let head = Head {
         language: profile::language_number(language),

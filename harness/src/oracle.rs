@@ -2,7 +2,7 @@
 
 use crate::answer::{Answer, Refusal};
 use crate::copies;
-use crate::format::{Format, NODE_WIDTH, NUMBERS_PER_TOKEN, Row};
+use crate::format::{Format, NODE_WIDTH, NUMBERS_PER_TOKEN};
 use crate::tree::Node;
 
 /// Answers a file and leaves in the buffer what document 01 says.
@@ -10,7 +10,8 @@ pub fn answer(file: &[u8], tree: &mut [u32]) -> Answer {
     answer_in(Format::current(), file, tree)
 }
 
-/// The same if files of this format were read.
+/// The same if files of this format were read: its standard numbers have the
+/// meaning that they have there.
 pub fn answer_in(format: Format, file: &[u8], tree: &mut [u32]) -> Answer {
     let row = match format.read(file) {
         Ok(row) => row,
@@ -20,7 +21,7 @@ pub fn answer_in(format: Format, file: &[u8], tree: &mut [u32]) -> Answer {
         return Refusal::plain(Refusal::SHORT_BUFFER).after(0);
     }
     tree.fill(0);
-    let (outcome, steps) = copies::read(&row);
+    let (outcome, steps) = copies::read(&row, row.profile_in(format));
     match outcome {
         None => Refusal::plain(Refusal::ALLOWANCE_PASSED).after(steps),
         Some(Err(refusal)) => refusal.after(steps),
@@ -40,7 +41,12 @@ fn write(nodes: &[Node], tree: &mut [u32]) {
 
 /// The answer, and a tree buffer of just the size that the file needs.
 pub fn answer_with_tree(file: &[u8]) -> (Answer, Vec<u32>) {
-    let tokens = Row::read(file).map_or(0, |row| row.tokens.len());
+    answer_with_tree_in(Format::current(), file)
+}
+
+/// The same if files of this format were read.
+pub fn answer_with_tree_in(format: Format, file: &[u8]) -> (Answer, Vec<u32>) {
+    let tokens = format.read(file).map_or(0, |row| row.tokens.len());
     let mut tree = vec![0; NUMBERS_PER_TOKEN * tokens];
-    (answer(file, &mut tree), tree)
+    (answer_in(format, file, &mut tree), tree)
 }

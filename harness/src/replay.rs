@@ -13,7 +13,7 @@ use crate::generate::random::Random;
 use crate::generate::{self, Case, DEFAULT_ALLOWANCE};
 use crate::kind::Kind;
 use crate::oracle;
-use crate::profile::MEANT_STANDARD;
+use crate::profile::NEWER_STANDARD;
 use crate::worked_rows::WORKED_ROWS;
 
 const SEED: u64 = 20_261_120;
@@ -63,7 +63,7 @@ fn exact(row: &Row) -> Case {
 fn outermost() -> Vec<Case> {
     let head = Head {
         language: 0,
-        standard: MEANT_STANDARD,
+        standard: NEWER_STANDARD,
         flag: 0,
         allowance: DEFAULT_ALLOWANCE,
     };
@@ -114,12 +114,12 @@ fn likeness(case: &Case) -> Likeness {
 /// How many cases of a likeness are chosen: more where more rules decide.
 fn most((refusal, _, _, _, flag): Likeness) -> usize {
     match refusal {
-        None if flag == 1 => 36,
-        None => 12,
+        None if flag == 1 => 30,
+        None => 10,
         Some(Refusal::FILE_TOO_LONG..=Refusal::TOO_MANY_RECORDS) => 150,
         Some(Refusal::NESTING_LIMIT_EXCEEDED) => 1,
-        Some(Refusal::UNTERMINATED_GROUP | Refusal::MISMATCHED_CLOSING_DELIMITER) => 8,
-        Some(Refusal::NO_TYPE_NAME) => 24,
+        Some(Refusal::UNTERMINATED_GROUP | Refusal::MISMATCHED_CLOSING_DELIMITER) => 7,
+        Some(Refusal::NO_TYPE_NAME) => 20,
         Some(_) => 3,
     }
 }

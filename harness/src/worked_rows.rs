@@ -212,7 +212,7 @@ impl Source {
         let repeated = |kind, times| std::iter::repeat_n(Token::plain(kind), times);
         match *self {
             Self::Text(text) => lex(text, language, standard),
-            Self::CppText(text) => lex(text, Cpp, profile::MEANT_STANDARD),
+            Self::CppText(text) => lex(text, Cpp, profile::ARCHIVE_STANDARD),
             Self::Empty => Vec::new(),
             Self::Groups(depth) => [Token::word("int")]
                 .into_iter()

@@ -8,7 +8,7 @@ use harness::format::{
 };
 use harness::generate::cases;
 use harness::kind::Kind;
-use harness::profile::{HostLanguage, MEANT_STANDARD, language_number, profile};
+use harness::profile::{ARCHIVE_STANDARD, HostLanguage, language_number, profile};
 use harness::{lexed, oracle};
 
 const DIRT: u32 = 0xDEAD_BEEF;
@@ -32,7 +32,7 @@ fn buffer_is_right(answer: Answer, tree: &[u32]) -> bool {
 fn row(language: HostLanguage, flag: u8, tokens: Vec<Token>) -> Row {
     let head = Head {
         language: language_number(language),
-        standard: MEANT_STANDARD,
+        standard: ARCHIVE_STANDARD,
         flag,
         allowance: 1_000,
     };
@@ -40,7 +40,7 @@ fn row(language: HostLanguage, flag: u8, tokens: Vec<Token>) -> Row {
 }
 
 fn text(language: HostLanguage, flag: u8, text: &str) -> Row {
-    let profile = profile(language, MEANT_STANDARD).unwrap();
+    let profile = profile(language, ARCHIVE_STANDARD).unwrap();
     row(language, flag, lexed::tokens(text, profile).unwrap())
 }
 

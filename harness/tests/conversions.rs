@@ -1,5 +1,6 @@
 //! The model of the conversions: the examples worked out by hand, that each is
-//! the other's inverse, and what generated files are good for.
+//! the other's inverse save for standard 255, and what generated files are good
+//! for.
 
 use std::collections::BTreeSet;
 
@@ -7,7 +8,7 @@ use harness::answer::{Answer, Refusal};
 use harness::conversions::generate::{chosen, damaged, file, long};
 use harness::conversions::model::{Conversion, narrow, type_name_narrow, type_name_widen, widen};
 use harness::conversions::worked::Entries;
-use harness::format::{Format, NUMBERS_PER_TOKEN, Row};
+use harness::format::{Format, NUMBERS_PER_TOKEN, Row, STANDARD_AT};
 use harness::generate::cases;
 use harness::generate::random::Random;
 use harness::lists::model::{numbers, numbers_in};
@@ -42,17 +43,35 @@ fn files(conversion: Conversion, seed: u64) -> Vec<Vec<u8>> {
 }
 
 #[test]
-fn each_is_the_others_inverse() {
+fn each_is_the_others_inverse_save_for_255() {
     for conversion in Conversion::BOTH {
         let mut converted = 0;
+        let mut standards = BTreeSet::new();
         for file in files(conversion, 1) {
             if let Ok(other) = conversion.convert(&file, usize::MAX) {
                 let back = conversion.inverse().convert(&other, file.len());
-                assert_eq!(back, Ok(file));
+                assert_eq!(back, Ok(conversion.returned(&file)));
+                let back = back.unwrap();
+                if conversion == Conversion::Narrow && file[STANDARD_AT] == 255 {
+                    // The standard that 255 means: answers stay.
+                    let [row, back] = [&file, &back].map(|file| Row::read(file).unwrap());
+                    assert_eq!(back.profile(), row.profile());
+                    assert_ne!(back.head.standard, 255);
+                    assert_eq!(back.tokens, row.tokens);
+                } else {
+                    assert_eq!(back, file);
+                }
+                standards.insert((file[4], file[STANDARD_AT]));
                 converted += 1;
             }
         }
         assert!(converted > 5_000);
+        // Each standard that the format knows, in every language.
+        let beyond = match conversion {
+            Conversion::Widen => 1,
+            Conversion::Narrow => 2,
+        };
+        assert_eq!(standards.len(), 18 + 3 * beyond);
     }
 }
 
@@ -81,9 +100,11 @@ fn every_answer_is_drawn() {
 #[test]
 fn narrow_refuses_what_no_old_file_can_hold_and_nothing_else() {
     for file in files(Conversion::Narrow, 3) {
-        let Ok(row) = Row::read(&file) else {
+        let Ok(mut row) = Row::read(&file) else {
             continue;
         };
+        // An old file has a number for every standard.
+        row.head.standard = 0;
         let old = Format::old().write(&row);
         let holds = Format::old().read(&old).as_ref() == Ok(&row);
         assert_eq!(narrow(&file, usize::MAX).is_ok(), holds);

@@ -1,5 +1,5 @@
 //! Files, records and their refusals, as document 01 has them with document
-//! 02's C-14.
+//! 02's C-14 and C-16.
 
 use harness::answer::{NO_TOKEN, Refusal};
 use harness::format::{FLAG_AT, Format, Head, MOST_TOKENS, Row, STANDARD_AT, Token};
@@ -107,10 +107,20 @@ fn each_language_knows_its_standards() {
         for standard in 0..=255 {
             let mut file = changed(4, language);
             file[STANDARD_AT] = standard;
-            if standard < count || standard == 255 {
+            if standard < count || standard >= 254 {
                 assert!(Row::read(&file).is_ok());
             } else {
                 assert_eq!(refusal(&file), (Refusal::UNKNOWN_PROFILE, 0));
+            }
+            // An old file's 254 is no standard.
+            let old = Format::old();
+            file[2..4].copy_from_slice(&old.head_kind.to_le_bytes());
+            match old.read(&file) {
+                Ok(row) => assert!(row.head.standard < count || row.head.standard == 255),
+                Err(refusal) => {
+                    assert_eq!(refusal, Refusal::plain(Refusal::UNKNOWN_PROFILE));
+                    assert!((count..255).contains(&standard));
+                }
             }
         }
     }

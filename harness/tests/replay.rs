@@ -7,7 +7,7 @@ use harness::format::{
 };
 use harness::generate::DEFAULT_ALLOWANCE;
 use harness::lexed;
-use harness::profile::{self, HostLanguage, MEANT_STANDARD};
+use harness::profile::{self, HostLanguage, NEWER_STANDARD};
 use harness::replay::list;
 
 /// The list that the program reads.
@@ -108,8 +108,9 @@ fn the_list_holds_every_answer_and_is_the_one_that_is_replayed() {
     assert_eq!(refusals, BTreeSet::from(every));
     assert!((0..=2).all(|detail| details.contains(&(11, detail))));
     assert!((1..=11).all(|detail| details.contains(&(40, detail))));
-    // 18 standards and 255 in three languages, both flags, accepted and not.
-    assert_eq!(profiles.len(), (18 + 3) * 2 * 2);
+    // 18 standards, 254 and 255 in three languages, both flags, accepted and
+    // not.
+    assert_eq!(profiles.len(), (18 + 2 * 3) * 2 * 2);
     for wanted in ["equal", "more"] {
         assert!(buffers.contains(&(true, wanted)) && allowances.contains(wanted));
     }
@@ -218,19 +219,24 @@ fn spans_are_replayed_at_the_ends_of_their_halves() {
     }
 }
 
-/// The answer's number and steps that the list has for a text in C++17.
+/// The answer that the list has for a text under a head.
+fn stored_answer(cases: &[Stored], head: Head, text: &str) -> Option<[u32; 4]> {
+    let cpp23 = profile::profile(HostLanguage::Cpp, NEWER_STANDARD).unwrap();
+    let tokens = lexed::tokens(text, cpp23).unwrap();
+    let file = Row { head, tokens }.write();
+    let found = cases.iter().find(|case| case.file == file)?;
+    Some(found.answer)
+}
+
+/// The answer's number and steps that the list has for a text in C++23.
 fn answer_of(cases: &[Stored], text: &str, flag: u8, allowance: u32) -> Option<[u32; 2]> {
-    let profile = profile::profile(HostLanguage::Cpp, MEANT_STANDARD).unwrap();
     let head = Head {
         language: 1,
-        standard: MEANT_STANDARD,
+        standard: NEWER_STANDARD,
         flag,
         allowance,
     };
-    let tokens = lexed::tokens(text, profile).unwrap();
-    let file = Row { head, tokens }.write();
-    let found = cases.iter().find(|case| case.file == file)?;
-    Some(match found.answer {
+    Some(match stored_answer(cases, head, text)? {
         [0, _, steps, _] => [0, steps],
         [number, _, _, steps] => [number, steps],
     })
@@ -250,4 +256,22 @@ fn lists_halves_and_tries_are_replayed() {
         assert_eq!(answer, Some([25, allowance]));
     }
     assert_eq!(answer_of(&cases, "Slots<(Lanes<8)>", 1, 12), Some([21, 12]));
+}
+
+/// Document 02, C-16, by hand: what C18 lacks and C23 has.
+#[test]
+fn standards_254_and_255_are_replayed() {
+    let cases = stored(&std::fs::read(PATH).unwrap());
+    let answer = |standard| {
+        let head = Head {
+            language: 0,
+            standard,
+            flag: 1,
+            allowance: DEFAULT_ALLOWANCE,
+        };
+        stored_answer(&cases, head, "_BitInt(8)")
+    };
+    assert_eq!(answer(255), Some([0, 3, 5, 0]));
+    assert_eq!(answer(254), Some([40, 65_535, 3, 5]));
+    assert_eq!(answer(253), Some([3, 65_535, 0, 0]));
 }

@@ -7,7 +7,7 @@ use harness::answer::Answer;
 use harness::format::NUMBERS_PER_TOKEN;
 use harness::generate::Case;
 use harness::names::{Name, names};
-use harness::profile::{self, HostLanguage, MEANT_STANDARD};
+use harness::profile::{ARCHIVE_STANDARD, NEWER_STANDARD};
 
 use crate::Tally;
 
@@ -17,52 +17,41 @@ const SPARE: usize = 5;
 /// A standard number and a structure flag, with what they are called.
 struct Setting {
     title: &'static str,
-    standard: fn(HostLanguage) -> u8,
+    standard: u8,
     flag: u8,
 }
 
+/// The first standard that each language declares.
+const EARLIEST: u8 = 0;
+
+/// The latest standards (255), those of release archives (254) and the earliest.
 const SETTINGS: [Setting; 5] = [
     Setting {
         title: "standard 255, flag 1",
-        standard: meant,
+        standard: NEWER_STANDARD,
         flag: 1,
     },
     Setting {
-        title: "latest standard, flag 1",
-        standard: latest,
+        title: "standard 254, flag 1",
+        standard: ARCHIVE_STANDARD,
         flag: 1,
     },
     Setting {
         title: "standard 255, flag 0",
-        standard: meant,
+        standard: NEWER_STANDARD,
         flag: 0,
     },
     Setting {
-        title: "latest standard, flag 0",
-        standard: latest,
+        title: "standard 254, flag 0",
+        standard: ARCHIVE_STANDARD,
         flag: 0,
     },
     Setting {
         title: "earliest standard, flag 1",
-        standard: earliest,
+        standard: EARLIEST,
         flag: 1,
     },
 ];
-
-fn meant(_: HostLanguage) -> u8 {
-    MEANT_STANDARD
-}
-
-/// The first standard that each language declares.
-fn earliest(_: HostLanguage) -> u8 {
-    0
-}
-
-/// The last standard that the language declares.
-fn latest(language: HostLanguage) -> u8 {
-    let declared = profile::standards(language).filter(|&standard| standard != MEANT_STANDARD);
-    declared.max().expect("a language has standards")
-}
 
 /// What became of a name before or in the readers.
 enum Outcome {
@@ -95,8 +84,7 @@ pub fn compare(file: &str, verdicts: Option<&str>, tally: &mut Tally) -> Result<
 
 /// Runs both readers on the name's row, the buffer dirty before: just as long as the row needs, and longer.
 fn answer(name: &Name, setting: &Setting, tally: &mut Tally) -> Outcome {
-    let standard = (setting.standard)(name.language);
-    let row = match name.row(standard, setting.flag) {
+    let row = match name.row(setting.standard, setting.flag) {
         Ok(row) => row,
         Err(message) => return Outcome::NotLexed(message),
     };

@@ -23,14 +23,15 @@ const HELP: &str = "\
 side_by_side [--seed S] [--count N] [--style NAME]
     N generated files (default 100000, seed 1), those of the harness's styles in turn.
 side_by_side --exhaustive ALPHABET --longest N [--shortest N]
-    All rows of so many tokens (from 0 unless said) over an alphabet, each under standard 255 of every language with flag 0
-    and 1. Alphabets: mixed (13 tokens), brackets (9), angles (7), kinds (58).
+    All rows of so many tokens (from 0 unless said) over an alphabet, each under standard 255 of every language (C23, C++23,
+    Fortran 2023) with flag 0 and 1. Alphabets: mixed (13 tokens), brackets (9), angles (7), kinds (58).
 side_by_side --operators --longest N
     All rows of up to so many tokens, of every kind, between two operands: int[a .. a] in C and C++, real((a .. a)) in
     Fortran, under standard 255 with flag 1.
 side_by_side --corpus FILE [--verdicts FILE]
-    The type names of a file (language, source and text, parted by tabs), lexed by the original's lexer: standard 255 and
-    the latest with flag 1 and 0, the earliest with flag 1. Verdicts: what each name gets with standard 255 and flag 1.
+    The type names of a file (language, source and text, parted by tabs), lexed by the original's lexer: standards 255 and
+    254 (C18, C++17, Fortran 2018) with flag 1 and 0, the earliest with flag 1. Verdicts: what each name gets with standard
+    255 and flag 1.
 side_by_side --rules [--seed S] [--count N]
     N calls or some more (default 100000, seed 1) for the rule that wins and for the pairs of rules that overlap, on tables
     that are chosen, generated and damaged: the harness's model of rule tables and the proved library. Prints how often
@@ -42,7 +43,8 @@ side_by_side --lists [--seed S] [--count N]
 side_by_side --conversions [--seed S] [--count N]
     N calls or some more (default 100000, seed 1) for the conversions between the old format and the current one: files that
     are chosen, generated, damaged and at the limits, the harness's model and the proved library; what is converted is
-    converted back, and some widened files are read. Prints how often each outcome was seen.
+    converted back, and some of what comes out is read. Rows are read as old files under 255 had them, under 254 and under
+    255: what was accepted is accepted with the same tree. Prints how often each outcome was seen.
 side_by_side --outer [--seed S] [--count N]
     Calls for the outer template by extents: all sequences of up to 5 nodes over few kinds and extents, then N calls or some
     more (default 100000, seed 1) on trees of accepted rows, on such with other numbers where these do not count, on

@@ -4,6 +4,7 @@
 
 use std::collections::BTreeSet;
 
+use harness::format::Format;
 use harness::generate::random::Random;
 use harness::kind::Kind;
 use harness::lexed;
@@ -27,7 +28,8 @@ const PIECES: usize = 9;
 type Tokens = Option<Vec<(u32, String, usize, usize)>>;
 
 fn originals(text: &str, language: u8, standard: u8) -> Tokens {
-    let profile = profile::numbered(language, standard).expect("a known profile");
+    let profile =
+        profile::numbered_in(Format::current(), language, standard).expect("a known profile");
     let tokens = lexed::tokens(text, profile).ok()?;
     let token = tokens.into_iter().map(|token| {
         let kind = token.kind.number().into();

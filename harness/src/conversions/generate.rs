@@ -2,11 +2,14 @@
 //! of random numbers gives the same files.
 
 use super::model::Conversion;
-use crate::format::{FLAG_AT, Format, HEAD_LENGTH, Head, MOST_TOKENS, Row, Token, WORD_LENGTHS};
+use crate::format::{
+    FLAG_AT, Format, HEAD_LENGTH, Head, LANGUAGE_AT, MOST_TOKENS, Row, STANDARD_AT, Token,
+    WORD_LENGTHS,
+};
 use crate::generate::malformed;
 use crate::generate::random::Random;
 use crate::kind::Kind;
-use crate::profile::{self, LANGUAGES, MEANT_STANDARD};
+use crate::profile::{self, ARCHIVE_STANDARD, LANGUAGES};
 
 /// Offsets about the ends of bytes, of halves and of a sign.
 #[rustfmt::skip]
@@ -36,8 +39,9 @@ fn span(random: &mut Random, offsets: &[u64]) -> (u64, u64) {
     (one.min(other), one.max(other))
 }
 
-/// A file of a row with other spans and another allowance.
+/// A file of a row with another standard, other spans and another allowance.
 pub fn file(random: &mut Random, format: Format, mut row: Row) -> Vec<u8> {
+    row.head.standard = standard(random, format, row.head.language);
     row.head.allowance = random.draw() as u32;
     draw_spans(random, format, &mut row.tokens);
     format.write(&row)
@@ -52,6 +56,19 @@ pub fn damaged(random: &mut Random, format: Format, mut row: Row) -> Vec<u8> {
     let mut file = file(random, format, row);
     malformed::damage(random, format, &mut file);
     file
+}
+
+/// Any standard that the format knows, every second time one beyond those
+/// that the language declares.
+fn standard(random: &mut Random, format: Format, language: u8) -> u8 {
+    let known = profile::standards_in(format, LANGUAGES[usize::from(language)]);
+    let (beyond, declared): (Vec<u8>, Vec<u8>) =
+        known.partition(|&standard| standard >= ARCHIVE_STANDARD);
+    if random.one_in(2) {
+        *random.pick(&beyond)
+    } else {
+        *random.pick(&declared)
+    }
 }
 
 /// Spans as a lexer would number them or at the edges of 32 bits; at times one
@@ -72,14 +89,12 @@ fn draw_spans(random: &mut Random, format: Format, tokens: &mut [Token]) {
     }
 }
 
+/// Of any language, with either flag; `file` draws the rest.
 fn head(random: &mut Random) -> Head {
-    let language = *random.pick(&LANGUAGES);
-    let standards: Vec<u8> = profile::standards(language).collect();
     Head {
-        language: profile::language_number(language),
-        standard: *random.pick(&standards),
+        language: profile::language_number(*random.pick(&LANGUAGES)),
         flag: random.below(2) as u8,
-        allowance: random.draw() as u32,
+        ..small().head
     }
 }
 
@@ -148,7 +163,8 @@ fn small() -> Row {
     Row {
         head: Head {
             language: 0,
-            standard: MEANT_STANDARD,
+            // Both formats know it, each with a meaning of its own.
+            standard: 255,
             flag: 1,
             allowance: 1_000,
         },
@@ -157,8 +173,9 @@ fn small() -> Row {
 }
 
 /// Files that are the same in every run: a small one with each byte changed to
-/// every other and cut off everywhere, each span of the offsets in either of
-/// two records, and those of `limits`.
+/// every other and cut off everywhere, each standard number in every language
+/// and in an unknown one, each span of the offsets in either of two records,
+/// and those of `limits`.
 pub fn chosen(conversion: Conversion) -> Vec<Vec<u8>> {
     let format = conversion.source();
     let good = format.write(&small());
@@ -167,6 +184,14 @@ pub fn chosen(conversion: Conversion) -> Vec<Vec<u8>> {
         files.extend((0..=u8::MAX).map(|byte| {
             let mut file = good.clone();
             file[place] = byte;
+            file
+        }));
+    }
+    for language in 0..=LANGUAGES.len() as u8 {
+        files.extend((0..=u8::MAX).map(|standard| {
+            let mut file = good.clone();
+            file[LANGUAGE_AT] = language;
+            file[STANDARD_AT] = standard;
             file
         }));
     }

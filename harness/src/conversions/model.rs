@@ -1,7 +1,15 @@
-//! What the proved library's two conversions have to answer.
+//! What the proved library's two conversions have to answer. What they make of
+//! the head's standard is document 02's C-16: "Standard 255 comes to mean C23,
+//! Cpp23 and Fortran2023. Release archives relied on C18, Cpp17 and
+//! Fortran2018, so 254 names those from now on, and the converter from old
+//! files writes 254 where it finds 255; its inverse writes 255 for 254 and the
+//! standard's own number for 255. A row accepted before under 255 is accepted
+//! now with the same tree. Refusal 3 no longer covers 254, save in old files."
+//! So the inverse of a widened file is the old file, and a narrowed file comes
+//! back as it was unless it had 255.
 
 use crate::answer::Refusal;
-use crate::format::Format;
+use crate::format::{Format, Head, LANGUAGE_AT, STANDARD_AT};
 use crate::rules::model::{Numbers, hand_out};
 
 /// Which way a file is converted.
@@ -47,6 +55,16 @@ impl Conversion {
         }
     }
 
+    /// What the inverse makes of what a file was converted to: the file again,
+    /// but for the standard's own number where a current head has 255.
+    pub fn returned(self, file: &[u8]) -> Vec<u8> {
+        let mut file = file.to_vec();
+        if self == Self::Narrow && file[STANDARD_AT] == 255 {
+            file[STANDARD_AT] = own_number(file[LANGUAGE_AT]);
+        }
+        file
+    }
+
     /// As `type_name_widen` and `type_name_narrow` of the proved library.
     pub fn call(self, file: &[u8], output: &mut [u8], answer: &mut [u32]) -> u32 {
         let converted = self.convert(file, output.len());
@@ -57,15 +75,40 @@ impl Conversion {
     }
 }
 
+/// C23, Cpp23 and Fortran2023, which 255 means, by their places among the
+/// standards that their languages declare.
+fn own_number(language: u8) -> u8 {
+    [4, 5, 6][usize::from(language)]
+}
+
+/// The standard of an old head in a current one.
+fn widened(Head { standard, .. }: Head) -> u8 {
+    match standard {
+        255 => 254,
+        declared => declared,
+    }
+}
+
+/// The standard of a current head in an old one.
+fn narrowed(head: Head) -> u8 {
+    match head.standard {
+        254 => 255,
+        255 => own_number(head.language),
+        declared => declared,
+    }
+}
+
 /// Brings an old file over: 1 to 5, then 6.
 pub fn widen(file: &[u8], room: usize) -> Converted {
-    let row = Format::old().read(file)?;
+    let mut row = Format::old().read(file)?;
+    row.head.standard = widened(row.head);
     fitting(Format::current().write(&row), room)
 }
 
 /// Its inverse: 1 to 5, then 7, then 1 if the old form is too long, then 6.
 pub fn narrow(file: &[u8], room: usize) -> Converted {
-    let row = Format::current().read(file)?;
+    let mut row = Format::current().read(file)?;
+    row.head.standard = narrowed(row.head);
     let most = u64::from(u32::MAX);
     if row.tokens.iter().any(|token| token.end > most) {
         return Err(Refusal::plain(Refusal::OFFSET_OVER_32_BITS));

@@ -30,13 +30,14 @@ const OLD: [u8; 26] = *b"\x0b\0\x00\x01\0\0\x01\xe8\x03\0\0\
 const NEW: [u8; 34] = *b"\x0b\0\x05\x01\0\0\x01\xe8\x03\0\0\
 \x17\0\0\0\0\0\0\0\0\0\0\0\x03\0\0\0\0\0\0\0int";
 
-/// Standard 255 of Fortran with flag 0 and the greatest allowance; kind 57 at
-/// 1 to 2^32 - 1, `>` at 258 twice, `~`: no row that is read.
+/// Fortran2018 by its number beyond the declared ones, 255 before and 254 now,
+/// with flag 0 and the greatest allowance; kind 57 at 1 to 2^32 - 1, `>` at 258
+/// twice, `~`: no row that is read.
 const OLD_ROW: [u8; 48] = *b"\x0b\0\x00\x01\x02\xff\0\xff\xff\xff\xff\
 \x0c\0\x39\0\x01\0\0\0\xff\xff\xff\xff\
 \x0c\0\x29\0\x02\x01\0\0\x02\x01\0\0\
 \x0d\0\0\0\0\0\0\0\0\0\0\0~";
-const NEW_ROW: [u8; 72] = *b"\x0b\0\x05\x01\x02\xff\0\xff\xff\xff\xff\
+const NEW_ROW: [u8; 72] = *b"\x0b\0\x05\x01\x02\xfe\0\xff\xff\xff\xff\
 \x14\0\x39\0\x01\0\0\0\0\0\0\0\xff\xff\xff\xff\0\0\0\0\
 \x14\0\x29\0\x02\x01\0\0\0\0\0\0\x02\x01\0\0\0\0\0\0\
 \x15\0\0\0\0\0\0\0\0\0\0\0\0\0\0\0\0\0\0\0~";
@@ -103,6 +104,7 @@ impl Entries {
     pub fn assert_worked(&self) {
         self.assert_converted();
         self.assert_heads();
+        self.assert_standards();
         self.assert_records();
         self.assert_offsets();
         self.assert_long_words();
@@ -164,7 +166,7 @@ impl Entries {
             (FLAG, 2, 2),
             (LANGUAGE, 3, 3),
             (STANDARD, 5, 3),
-            (STANDARD, 254, 3),
+            (STANDARD, 253, 3),
         ];
         for (place, byte, number) in faults {
             self.widen_refuses(&with(&OLD, place, byte), refused(number));
@@ -177,6 +179,73 @@ impl Entries {
         let and_record = |file: &[u8]| with(&with(file, STANDARD, 5), RECORD + 2, 58);
         self.widen_refuses(&and_record(&OLD), refused(3));
         self.narrow_refuses(&and_record(&NEW), refused(3));
+    }
+
+    /// What C-16 says of heads, one number after the other.
+    fn assert_standards(&self) {
+        let head = |file: &[u8], language, standard| {
+            with(&with(file, LANGUAGE, language), STANDARD, standard)
+        };
+        let old = |language, standard| head(&OLD, language, standard);
+        let new = |language, standard| head(&NEW, language, standard);
+        let widens = |from: &[u8], to: &[u8]| self.widen(from, 34, accepted(34), to);
+        let narrows = |from: &[u8], to: &[u8]| self.narrow(from, 26, accepted(26), to);
+        // C, C++ and Fortran: how many standards they declare, and which of
+        // them 255 means now.
+        for (language, declared, own) in [(0, 5, 4), (1, 6, 5), (2, 7, 6)] {
+            for standard in 0..declared {
+                widens(&old(language, standard), &new(language, standard));
+                narrows(&new(language, standard), &old(language, standard));
+            }
+            // There and back, and back and there.
+            widens(&old(language, 255), &new(language, 254));
+            narrows(&new(language, 254), &old(language, 255));
+            // Only there: what comes back names the standard itself.
+            narrows(&new(language, 255), &old(language, own));
+            widens(&old(language, own), &new(language, own));
+            for standard in [declared, 252, 253] {
+                self.widen_refuses(&old(language, standard), refused(3));
+                self.narrow_refuses(&new(language, standard), refused(3));
+            }
+            self.widen_refuses(&old(language, 254), refused(3));
+            // The standard comes before the records: 254 is at fault in an old
+            // file alone.
+            let and_record = |file: &[u8]| with(file, RECORD + 2, 58);
+            self.widen_refuses(&and_record(&old(language, 254)), refused(3));
+            self.widen_refuses(&and_record(&old(language, 255)), malformed(11));
+            for standard in [254, 255] {
+                self.narrow_refuses(&and_record(&new(language, standard)), malformed(11));
+            }
+            // A head alone, and too little room for it.
+            self.widen(
+                &old(language, 255)[..11],
+                11,
+                accepted(11),
+                &new(language, 254)[..11],
+            );
+            self.narrow(
+                &new(language, 254)[..11],
+                11,
+                accepted(11),
+                &old(language, 255)[..11],
+            );
+            self.narrow(
+                &new(language, 255)[..11],
+                11,
+                accepted(11),
+                &old(language, own)[..11],
+            );
+            self.widen(&old(language, 255), 33, refused(6), &[]);
+            self.narrow(&new(language, 254), 25, refused(6), &[]);
+            self.narrow(&new(language, 255), 25, refused(6), &[]);
+        }
+        // No language, whatever its standard.
+        for standard in [0, 4, 5, 6, 253, 254, 255] {
+            for language in [3, 255] {
+                self.widen_refuses(&old(language, standard), refused(3));
+                self.narrow_refuses(&new(language, standard), refused(3));
+            }
+        }
     }
 
     fn assert_records(&self) {

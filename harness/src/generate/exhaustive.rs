@@ -5,7 +5,7 @@ use std::ops::RangeInclusive;
 use super::{Case, DEFAULT_ALLOWANCE};
 use crate::format::{Head, NUMBERS_PER_TOKEN, Row, Token};
 use crate::kind::Kind;
-use crate::profile::{LANGUAGES, MEANT_STANDARD, language_number};
+use crate::profile::{LANGUAGES, NEWER_STANDARD, language_number};
 
 /// The tokens that rows are made of: words, then other kinds.
 pub struct Alphabet {
@@ -126,7 +126,7 @@ pub fn each_way(tokens: Vec<Token>) -> [Case; WAYS] {
     let tree_len = NUMBERS_PER_TOKEN * tokens.len();
     let head = Head {
         language: 0,
-        standard: MEANT_STANDARD,
+        standard: NEWER_STANDARD,
         flag: 0,
         allowance: DEFAULT_ALLOWANCE,
     };

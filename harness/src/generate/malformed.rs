@@ -10,7 +10,7 @@ use crate::format::{
     WORD_LENGTHS,
 };
 use crate::kind::Kind;
-use crate::profile::{LANGUAGES, MEANT_STANDARD};
+use crate::profile::LANGUAGES;
 
 // Where a record has its fields; a head has its kind there, too. A span's end
 // stands behind its start.
@@ -128,9 +128,10 @@ fn language(random: &mut Random, _format: Format, file: &mut Vec<u8>) {
     file[LANGUAGE_AT] = *random.pick(&[unknown, unknown + 1, 255]);
 }
 
-/// Any number from just below the last standard of C to 255.
+/// About the last standards that the languages declare, and about those beyond
+/// them; some of these are known after all.
 fn standard(random: &mut Random, _format: Format, file: &mut Vec<u8>) {
-    file[STANDARD_AT] = *random.pick(&[4, 5, 6, 7, 8, 128, MEANT_STANDARD - 1]);
+    file[STANDARD_AT] = *random.pick(&[4, 5, 6, 7, 8, 128, 252, 253, 254]);
 }
 
 fn flag_and_language(random: &mut Random, format: Format, file: &mut Vec<u8>) {

@@ -4,7 +4,7 @@
 use super::{Case, DEFAULT_ALLOWANCE};
 use crate::format::{Head, NUMBERS_PER_TOKEN, Row, Token};
 use crate::kind::Kind;
-use crate::profile::{HostLanguage, MEANT_STANDARD, language_number};
+use crate::profile::{HostLanguage, NEWER_STANDARD, language_number};
 
 /// `int[a .. a]` in C and C++, `real((a .. a))` in Fortran, whose outer
 /// parentheses hold selectors.
@@ -21,7 +21,7 @@ pub fn between_operands(language: HostLanguage, tokens: &[Token]) -> Row {
     row.resize(row.len() + pairs, Token::plain(closer));
     let head = Head {
         language: language_number(language),
-        standard: MEANT_STANDARD,
+        standard: NEWER_STANDARD,
         flag: 1,
         allowance: DEFAULT_ALLOWANCE,
     };

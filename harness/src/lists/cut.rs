@@ -7,13 +7,13 @@ use std::ops::Range;
 
 use crate::format::{Row, Token};
 use crate::kind::Kind;
-use crate::profile::HostLanguage;
+use crate::profile::{HostLanguage, language_number};
 
 /// The tokens of each part, at least one part; a comma that parts two belongs
 /// to neither.
 pub fn parts(row: &Row) -> Vec<Range<usize>> {
     let mut open = Open {
-        is_cpp: row.profile().language() == HostLanguage::Cpp,
+        is_cpp: row.head.language == language_number(HostLanguage::Cpp),
         closers: Vec::new(),
         angles: 0,
     };

@@ -31,22 +31,31 @@ pub struct Reading {
 
 /// The file of one part alone.
 pub fn alone(row: &Row, part: Range<usize>, allowance: u32) -> Vec<u8> {
+    Format::current().write(&part_of(row, part, allowance))
+}
+
+fn part_of(row: &Row, part: Range<usize>, allowance: u32) -> Row {
     let head = Head {
         allowance,
         ..row.head
     };
     let tokens = row.tokens[part].to_vec();
-    Row { head, tokens }.write()
+    Row { head, tokens }
 }
 
 /// Reads the parts; each gets what those before it leave of the allowance. One
 /// that is refused by 25 takes all of it, so that the steps are the whole.
 pub fn read(row: &Row) -> Reading {
+    read_in(Format::current(), row)
+}
+
+/// The same for a row that was read in this format.
+fn read_in(format: Format, row: &Row) -> Reading {
     let mut reading = Reading::default();
     let mut taken = 0;
     for part in cut::parts(row) {
-        let file = alone(row, part, row.head.allowance - taken);
-        let (answer, tree) = oracle::answer_with_tree(&file);
+        let file = format.write(&part_of(row, part, row.head.allowance - taken));
+        let (answer, tree) = oracle::answer_with_tree_in(format, &file);
         taken += answer.steps();
         reading.steps.push(taken);
         match answer {
@@ -112,7 +121,7 @@ pub fn numbers_in(format: Format, file: &[u8], tree: &mut [u32]) -> Numbers {
     if tree.len() < NUMBERS_PER_TOKEN * row.tokens.len() {
         return numbered(Refusal::plain(Refusal::SHORT_BUFFER), 0, NO_PART);
     }
-    let reading = read(&row);
+    let reading = read_in(format, &row);
     tree.fill(0);
     if reading.refusal.is_none() {
         tree[..reading.tree.len()].copy_from_slice(&reading.tree);

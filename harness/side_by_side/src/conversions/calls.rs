@@ -3,12 +3,15 @@
 
 use std::hint::black_box;
 
-use harness::answer::Answer;
+use harness::answer::{Answer, Refusal};
 use harness::conversions::model::{Conversion, Converted, numbers};
-use harness::format::{ANSWER_LENGTH, Format, NUMBERS_PER_TOKEN};
+use harness::format::{
+    ANSWER_LENGTH, FLAG_AT, Format, LANGUAGE_AT, NUMBERS_PER_TOKEN, STANDARD_AT,
+};
 use harness::generate::random::Random;
 use harness::lists::model::{LIST_ANSWER_LENGTH, numbers_in};
 use harness::oracle;
+use harness::profile::{ARCHIVE_STANDARD, LANGUAGES, NEWER_STANDARD};
 use harness::rules::generate::table;
 use harness::rules::model::{match_numbers_in, top_level};
 use type_name::{
@@ -108,30 +111,114 @@ impl Tally {
         }
     }
 
-    /// Whether the inverse of what the library made is the file that it made it of, in just as many bytes.
+    /// Whether the inverse of what the library made is the file that it made it of, in just as many bytes; where a current
+    /// head has 255, with the standard's own number in its place.
     fn back(&mut self, random: &mut Random, conversion: Conversion, file: &[u8], made: &[u8]) {
         let lent = Lent::new(random, made, file.len(), ANSWER_LENGTH);
         let found = lent.after(library(conversion.inverse()));
         self.notes.calls += 1;
+        let returned = conversion.returned(file);
         self.notes.note(format!("{conversion:?}: and back"));
+        if returned != file {
+            let (from, to) = (file[STANDARD_AT], returned[STANDARD_AT]);
+            let outcome = format!("{conversion:?}: and back, standard {from} as {to}");
+            self.notes.note(outcome);
+        }
         let wanted = [0, file.len() as u32, 0, 0];
-        let same = found.returned == 0 && found.answer() == wanted && found.output() == file;
+        let same = found.returned == 0 && found.answer() == wanted && found.output() == returned;
         self.hold(same, conversion, file, || {
             format!("the inverse gives {:?} or another file", found.answer())
+        });
+    }
+
+    /// What the library makes of a good file, `None` if it refuses it or tells of more bytes than there is room for.
+    fn made(
+        &mut self,
+        random: &mut Random,
+        conversion: Conversion,
+        file: &[u8],
+    ) -> Option<Vec<u8>> {
+        let lent = Lent::new(random, file, 2 * file.len() + MARGIN, ANSWER_LENGTH);
+        let made = lent.after(library(conversion));
+        self.notes.calls += 1;
+        let bytes = made.answer()[1] as usize;
+        match made.returned {
+            0 => made.output().get(..bytes).map(<[u8]>::to_vec),
+            _ => None,
+        }
+    }
+
+    /// Reads a current file under 255 and what comes of it through the old format: answer and tree are the same.
+    pub fn read_back(&mut self, random: &mut Random, file: &[u8], tokens: usize) {
+        // Its old form may be too long.
+        let Some(old) = self.made(random, Conversion::Narrow, file) else {
+            return;
+        };
+        let back = self.made(random, Conversion::Widen, &old);
+        let tree_len = NUMBERS_PER_TOKEN * tokens;
+        let expected = by_original(Format::current(), file, tree_len);
+        let is_expected = |file: &[u8]| by_library(file, tree_len) == expected;
+        let same = [
+            is_expected(file),
+            back.is_some_and(|back| back[STANDARD_AT] != NEWER_STANDARD && is_expected(&back)),
+        ];
+        self.notes.calls += same.len() as u64;
+        self.notes.note(match expected.0[0] {
+            0 => "Narrow: and back from 255 and read, ok".to_owned(),
+            number => format!("Narrow: and back from 255 and read, no {number:02}"),
+        });
+        self.hold(same == [true; 2], Conversion::Narrow, file, || {
+            format!("read as it was and as it comes back: the same {same:?}")
+        });
+    }
+
+    /// A row under 255, before and now. The old file is answered by the original with the standards that 255 meant. What
+    /// the library makes of it says 254 and is answered so. With 255 instead, a row accepted before is accepted with the
+    /// same tree, and any other is answered as the original does with the standards that 255 means.
+    pub fn newer(&mut self, random: &mut Random, old: &[u8], tokens: usize) {
+        let Some(mut file) = self.made(random, Conversion::Widen, old) else {
+            return self.hold(false, Conversion::Widen, old, || "refused".to_owned());
+        };
+        let needed = NUMBERS_PER_TOKEN * tokens;
+        let tree_len = *random.pick(&[needed, needed, needed + 5]);
+        let current = Format::current();
+        let before = by_original(Format::old(), old, tree_len);
+        let is_archive = file[STANDARD_AT] == ARCHIVE_STANDARD;
+        let archive = by_library(&file, tree_len);
+        let archive_original = by_original(current, &file, tree_len);
+        file[STANDARD_AT] = NEWER_STANDARD;
+        let now = by_library(&file, tree_len);
+        let same = [
+            is_archive,
+            archive == before,
+            archive == archive_original,
+            now == by_original(current, &file, tree_len),
+            now == before || before.0[0] == Refusal::NOT_AVAILABLE_IN_PROFILE,
+        ];
+        self.notes.calls += 2;
+        let language = LANGUAGES[usize::from(file[LANGUAGE_AT])];
+        let flag = file[FLAG_AT];
+        let outcome = match (before.0[0], now.0[0]) {
+            (0, _) => "accepted before".to_owned(),
+            _ if now == before => "refused before, now alike".to_owned(),
+            (number, 0) => format!("no {number} before, accepted now"),
+            (number, _) => format!("no {number} before, refused otherwise now"),
+        };
+        let outcome = format!("Standard 255, {language:?}, flag {flag}: {outcome}");
+        self.notes.note(outcome);
+        self.hold(same == [true; 5], Conversion::Widen, old, || {
+            let (before, now) = (before.0, now.0);
+            format!("under 255 {before:?} before, {now:?} now; as wanted {same:?}")
         });
     }
 
     /// Reads what the library makes of an old file by its three entries: answer and tree are those that the old file would
     /// get if it were still read.
     pub fn read(&mut self, random: &mut Random, old: &[u8], tokens: usize) {
-        let lent = Lent::new(random, old, 2 * old.len() + MARGIN, ANSWER_LENGTH);
-        let made = lent.after(type_name_widen);
-        let bytes = made.answer()[1] as usize;
-        let Some(wide) = made.output().get(..bytes) else {
-            return self.hold(false, Conversion::Widen, old, || {
-                "too many bytes".to_owned()
-            });
+        let Some(wide) = self.made(random, Conversion::Widen, old) else {
+            return self.hold(false, Conversion::Widen, old, || "refused".to_owned());
         };
+        let wide = &wide;
         let needed = NUMBERS_PER_TOKEN * tokens;
         let lengths = [needed, needed, needed + 5, needed.saturating_sub(1)];
         let tree_len = *random.pick(&lengths);
@@ -172,6 +259,21 @@ impl Tally {
 
     fn note(&mut self, conversion: Conversion, file: &[u8], converted: &Converted) {
         let source = conversion.source();
+        if let Some(&standard @ 253..) = file.get(STANDARD_AT) {
+            let known_language = usize::from(file[LANGUAGE_AT]) < LANGUAGES.len();
+            match converted {
+                Ok(bytes) => {
+                    let to = bytes[STANDARD_AT];
+                    self.notes
+                        .note(format!("{conversion:?}: ok, standard {standard} to {to}"));
+                }
+                Err(refusal) if known_language && refusal.number == Refusal::UNKNOWN_PROFILE => {
+                    self.notes
+                        .note(format!("{conversion:?}: no 03, standard {standard}"));
+                }
+                Err(_) => {}
+            }
+        }
         self.notes.note(match converted {
             Ok(_) => format!("{conversion:?}: ok"),
             Err(refusal) if refusal.number == 1 && file.len() <= source.most_bytes => {
@@ -192,6 +294,18 @@ impl Tally {
             format!("{conversion:?}, file {}: {}", hex(file), how())
         });
     }
+}
+
+/// What the original leaves for a file of a format.
+fn by_original(format: Format, file: &[u8], tree_len: usize) -> ([u32; ANSWER_LENGTH], Vec<u32>) {
+    let mut tree = vec![DIRT; tree_len];
+    let answer = oracle::answer_in(format, file, &mut tree);
+    (answer.numbers(), tree)
+}
+
+/// What the library leaves for a current one.
+fn by_library(file: &[u8], tree_len: usize) -> ([u32; ANSWER_LENGTH], Vec<u32>) {
+    left(tree_len, |tree, answer| type_name_read(file, tree, answer))
 }
 
 /// The answer and the tree buffer that a reading leaves.

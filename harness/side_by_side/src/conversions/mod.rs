@@ -4,9 +4,10 @@ use std::process::ExitCode;
 
 use harness::conversions::generate::{chosen, damaged, file, long};
 use harness::conversions::model::Conversion;
-use harness::format::{Format, Row};
+use harness::format::{Format, Row, Token};
 use harness::generate;
 use harness::generate::random::Random;
+use harness::profile::{NEWER_STANDARD, OLD_ARCHIVE_STANDARD};
 
 mod calls;
 
@@ -18,8 +19,11 @@ const ANSWER_LENGTHS: [usize; 10] = [0, 1, 2, 3, 4, 4, 4, 4, 5, 6];
 /// One round in so many has a file at a limit.
 const LONG: usize = 120;
 
-/// One widened file in so many is read, too.
+/// One widened file in so many is read, too, and one current file under 255 when it comes back.
 const READ: usize = 12;
+
+/// One row in so many is read under 255, as that was meant and as it is.
+const NEWER: usize = 6;
 
 /// Steps enough for most rows; some take exponentially many.
 const AMPLE: u32 = 2_000;
@@ -63,6 +67,12 @@ impl Run {
         };
         if self.random.one_in(READ) {
             self.read(row.clone());
+        }
+        if self.random.one_in(READ) {
+            self.read_back(row.clone());
+        }
+        if self.random.one_in(NEWER) {
+            self.newer(row.clone());
         }
         for conversion in Conversion::BOTH {
             let format = conversion.source();
@@ -112,6 +122,36 @@ impl Run {
             self.tally.read(&mut self.random, &old, row.tokens.len());
         }
     }
+
+    /// A current file of the row under 255, narrowed, widened and read.
+    fn read_back(&mut self, row: Row) {
+        let row = under(NEWER_STANDARD, row);
+        let tokens = row.tokens.len();
+        self.tally.read_back(&mut self.random, &row.write(), tokens);
+    }
+
+    /// Old files of the row under 255, with either flag, unless they are too long.
+    fn newer(&mut self, row: Row) {
+        let mut row = under(OLD_ARCHIVE_STANDARD, row);
+        for flag in [0, 1] {
+            row.head.flag = flag;
+            let old = Format::old().write(&row);
+            if old.len() <= Format::old().most_bytes {
+                self.tally.newer(&mut self.random, &old, row.tokens.len());
+            }
+        }
+    }
+}
+
+/// The row under another standard, such that the old format holds its spans and that it does not take long.
+fn under(standard: u8, mut row: Row) -> Row {
+    row.head.standard = standard;
+    row.head.allowance = row.head.allowance.min(AMPLE);
+    let beyond = |token: &&mut Token| u32::try_from(token.end).is_err();
+    for token in row.tokens.iter_mut().filter(beyond) {
+        (token.start, token.end) = (0, 0);
+    }
+    row
 }
 
 /// How long the file is in the other format, if it has a row at all.

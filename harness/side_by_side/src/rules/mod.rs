@@ -8,7 +8,7 @@ use harness::generate::random::Random;
 use harness::generate::{self, Case};
 use harness::kind::Kind;
 use harness::oracle;
-use harness::profile::{HostLanguage, MEANT_STANDARD, language_number};
+use harness::profile::{HostLanguage, NEWER_STANDARD, language_number};
 use harness::rules::format::{self, Item, LONGEST_SEQUENCE, MOST_ITEMS, MOST_RULES, Rule, of_text};
 use harness::rules::generate::{large, table, with_edge_words};
 use harness::rules::model::{Pair, top_level};
@@ -174,7 +174,7 @@ fn chosen_row() -> Case {
     let tree_len = NUMBERS_PER_TOKEN * tokens.len();
     let head = Head {
         language: language_number(HostLanguage::Cpp),
-        standard: MEANT_STANDARD,
+        standard: NEWER_STANDARD,
         flag: 1,
         allowance: generate::DEFAULT_ALLOWANCE,
     };
