@@ -64,8 +64,10 @@ enum type_name_language {
     TYPE_NAME_LANGUAGE_FORTRAN = 2
 };
 
-/* Stands for C18, C++17 or Fortran 2018. */
-#define TYPE_NAME_STANDARD_DEFAULT 255
+/* Two numbers that mean a standard of whichever language the head has. In the old format 255 means what 254 means here, and
+ * 254 nothing: type_name_widen writes 254 for an old file's 255, so that release archives keep their standard. */
+#define TYPE_NAME_STANDARD_DEFAULT 255 /* means C23, C++23 or Fortran 2023 */
+#define TYPE_NAME_STANDARD_ARCHIVE 254 /* means C18, C++17 or Fortran 2018, as 255 did in files made before */
 
 enum type_name_c_standard {
     TYPE_NAME_C89 = 0,
@@ -189,7 +191,7 @@ enum type_name_node_kind {
 enum type_name_error {
     TYPE_NAME_ERROR_FILE_TOO_LONG = 1,                     /* over TYPE_NAME_MOST_BYTES bytes; old format: over 65,536 */
     TYPE_NAME_ERROR_INVALID_HEAD = 2,                      /* head record cut off, or its length, kind or structure flag wrong */
-    TYPE_NAME_ERROR_UNKNOWN_PROFILE = 3,                   /* no such language or standard */
+    TYPE_NAME_ERROR_UNKNOWN_PROFILE = 3,                   /* no such language or standard; old format: 254 is none */
     TYPE_NAME_ERROR_INVALID_RECORD = 4,                    /* token record malformed; detail: its byte offset */
     TYPE_NAME_ERROR_TOO_MANY_RECORDS = 5,                  /* over TYPE_NAME_MOST_TOKENS tokens */
     TYPE_NAME_ERROR_SHORT_BUFFER = 6,                      /* `tree`, `sequence` or `output` is too short */
@@ -368,7 +370,10 @@ uint32_t type_name_overlap(const uint8_t *rules, size_t rules_len,
 /* ---- the old format */
 
 /* Brings the `file_len` bytes at `file`, a file in the old format, over to the format that all functions above read: its
- * starts and ends become 8 bytes wide and nothing else that it says changes. type_name_narrow gives the old file back.
+ * starts and ends become 8 bytes wide, and of a head with standard 255, which meant C18, C++17 or Fortran 2018 there, the
+ * standard becomes TYPE_NAME_STANDARD_ARCHIVE, which means these here. Every other standard stays, and so does all else that
+ * the file says: the new file gets the answer and the tree that the old one got. type_name_narrow gives the old file back,
+ * byte for byte.
  *
  * Returns 0 if the file is converted, else the refusal's number. `answer` gets as many of four numbers as it has room for:
  *     converted   0, bytes of `output` that were written, 0, 0
@@ -377,8 +382,8 @@ uint32_t type_name_overlap(const uint8_t *rules, size_t rules_len,
  * `output` (output_len bytes) gets the converted file; bytes behind it stay. No refusal touches `output`.
  *
  * Tested in this order: the length (1: over TYPE_NAME_OLD_MOST_BYTES), the head (2, 3), record by record its number and its
- * form (5, 4), `output` (6: too short). A file in the new format is 2. The row is not looked at: a file whose row is refused
- * is converted like others.
+ * form (5, 4), `output` (6: too short). A file in the new format is 2, and standard 254 is 3. The row is not looked at: a
+ * file whose row is refused is converted like others.
  *
  * The new file is longer than the old one by TYPE_NAME_TOKEN_LENGTH - TYPE_NAME_OLD_TOKEN_LENGTH bytes, 8, for each token.
  * A file has at most TYPE_NAME_MOST_TOKENS of them, so TYPE_NAME_MOST_WIDENED bytes, which are
@@ -390,10 +395,14 @@ uint32_t type_name_widen(const uint8_t *file, size_t file_len,
                          uint8_t *output, size_t output_len,
                          uint32_t *answer, size_t answer_len);
 
-/* The inverse: brings a file over to the old format. type_name_widen gives the file back. All is as with type_name_widen but
- * what is tested, in this order: the length (1: over TYPE_NAME_MOST_BYTES), the head (2, 3), record by record its number and
- * its form (5, 4), whether a span ends at 2^32 or later (7), whether the old file would have more than
- * TYPE_NAME_OLD_MOST_BYTES bytes (1), `output` (6: too short). A file in the old format is 2.
+/* The inverse: brings a file over to the old format. There standard 255 is written for TYPE_NAME_STANDARD_ARCHIVE and, as the
+ * old format has no number that means them all, for TYPE_NAME_STANDARD_DEFAULT the standard's own: TYPE_NAME_C23,
+ * TYPE_NAME_CPP23 or TYPE_NAME_FORTRAN2023. type_name_widen gives the file back, save that a standard of 255 comes back as
+ * that number, which means the same.
+ *
+ * All is as with type_name_widen but what is tested, in this order: the length (1: over TYPE_NAME_MOST_BYTES), the head (2,
+ * 3), record by record its number and its form (5, 4), whether a span ends at 2^32 or later (7), whether the old file would
+ * have more than TYPE_NAME_OLD_MOST_BYTES bytes (1), `output` (6: too short). A file in the old format is 2.
  *
  * The old file is never longer than the new one, so as many bytes of `output` as `file` has always do, and so do
  * TYPE_NAME_OLD_MOST_BYTES. */

@@ -377,6 +377,59 @@ static void conversions(void)
     CHECK(TYPE_NAME_MOST_WIDENED == TYPE_NAME_OLD_MOST_BYTES + 8 * TYPE_NAME_MOST_TOKENS);
 }
 
+/* The standard byte of the head that `convert` writes for one with this standard, or 0xa5 if it refuses it with 3. */
+static uint8_t converted_standard(conversion *convert, unsigned kind, enum type_name_language language, uint8_t standard)
+{
+    uint8_t head[TYPE_NAME_HEAD_LENGTH], output[TYPE_NAME_HEAD_LENGTH];
+    uint32_t answer[TYPE_NAME_ANSWER_LENGTH];
+    memset(output, 0xa5, sizeof output);
+    CHECK(type_name_put_head(head, sizeof head, language, standard, TYPE_NAME_STRUCTURE_CHECK_ON, 9) == sizeof head);
+    type_name_put_number(head + 2, kind, 2);
+    if (convert(head, sizeof head, output, sizeof output, answer, 4) != 0) {
+        CHECK(answer[0] == TYPE_NAME_ERROR_UNKNOWN_PROFILE && output[0] == 0xa5);
+        return 0xa5;
+    }
+    CHECK(answer[1] == sizeof head && memcmp(head + 6, output + 6, sizeof head - 6) == 0);
+    return output[5];
+}
+
+/* `_BitInt(8)` in C by a standard; returns what the reader does. */
+static uint32_t reads_bit_int(uint8_t standard, uint32_t *answer)
+{
+    uint8_t file[ROOM];
+    uint32_t tree[4 * TYPE_NAME_NUMBERS_PER_TOKEN];
+    size_t length = type_name_put_head(file, sizeof file, TYPE_NAME_LANGUAGE_C, standard, TYPE_NAME_STRUCTURE_CHECK_ON, 1000);
+    length = type_name_put_token(file, sizeof file, length, TYPE_NAME_KIND_IDENTIFIER, "_BitInt", 7, 0, 7);
+    length = type_name_put_token(file, sizeof file, length, TYPE_NAME_KIND_LEFT_PAREN, NULL, 0, 7, 8);
+    length = type_name_put_token(file, sizeof file, length, TYPE_NAME_KIND_INTEGER, NULL, 0, 8, 9);
+    length = type_name_put_token(file, sizeof file, length, TYPE_NAME_KIND_RIGHT_PAREN, NULL, 0, 9, 10);
+    CHECK(length == TYPE_NAME_HEAD_LENGTH + 4 * TYPE_NAME_TOKEN_LENGTH + 7);
+    return type_name_read(file, length, tree, sizeof tree / sizeof tree[0], answer, 4);
+}
+
+/* What 254 and 255 mean, and what the conversions write for them. */
+static void standards(void)
+{
+    static const uint8_t newest[] = {TYPE_NAME_C23, TYPE_NAME_CPP23, TYPE_NAME_FORTRAN2023};
+    uint32_t answer[TYPE_NAME_ANSWER_LENGTH];
+    int i;
+    CHECK(reads_bit_int(TYPE_NAME_STANDARD_DEFAULT, answer) == 0 && answer[1] == 3 && answer[2] == 5);
+    CHECK(reads_bit_int(TYPE_NAME_C23, answer) == 0 && answer[1] == 3 && answer[2] == 5);
+    CHECK(reads_bit_int(TYPE_NAME_STANDARD_ARCHIVE, answer) == TYPE_NAME_ERROR_NOT_AVAILABLE_IN_PROFILE);
+    CHECK(answer[1] == TYPE_NAME_NO_TOKEN && answer[2] == TYPE_NAME_FEATURE_BIT_INT && answer[3] == 5);
+    CHECK(reads_bit_int(TYPE_NAME_C18, answer) == TYPE_NAME_ERROR_NOT_AVAILABLE_IN_PROFILE);
+    CHECK(reads_bit_int(253, answer) == TYPE_NAME_ERROR_UNKNOWN_PROFILE);
+    for (i = 0; i < 3; i++) {
+        enum type_name_language language = (enum type_name_language)i;
+        CHECK(converted_standard(type_name_widen, TYPE_NAME_OLD_HEAD_KIND, language, 255) == TYPE_NAME_STANDARD_ARCHIVE);
+        CHECK(converted_standard(type_name_widen, TYPE_NAME_OLD_HEAD_KIND, language, 254) == 0xa5);
+        CHECK(converted_standard(type_name_narrow, TYPE_NAME_HEAD_KIND, language, TYPE_NAME_STANDARD_ARCHIVE) == 255);
+        CHECK(converted_standard(type_name_narrow, TYPE_NAME_HEAD_KIND, language, TYPE_NAME_STANDARD_DEFAULT) == newest[i]);
+        CHECK(converted_standard(type_name_narrow, TYPE_NAME_HEAD_KIND, language, 253) == 0xa5);
+        CHECK(converted_standard(type_name_widen, TYPE_NAME_OLD_HEAD_KIND, language, newest[i]) == newest[i]);
+    }
+}
+
 static void no_pointers(void)
 {
     uint32_t answer[TYPE_NAME_ANSWER_LENGTH] = {9, 9, 9, 9};
@@ -409,6 +462,7 @@ int main(int count, char **arguments)
     lists();
     outer_templates();
     conversions();
+    standards();
     no_pointers();
     snprintf(version, sizeof version, "%d.%d.%d", TYPE_NAME_VERSION_MAJOR, TYPE_NAME_VERSION_MINOR,
              TYPE_NAME_VERSION_PATCH);

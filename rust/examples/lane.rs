@@ -3,7 +3,7 @@ use std::error::Error;
 use type_name::{Head, Row, TokenKind, parse_type_name, tree_for};
 
 fn main() -> Result<(), Box<dyn Error>> {
-    // C++17 with the structure check and an ample allowance.
+    // C++23 with the structure check and an ample allowance.
     let mut row = Row::new(Head::default());
     row.push(TokenKind::Identifier, "Lane", 0..4)?;
     row.push(TokenKind::Less, "<", 4..5)?;

@@ -12,11 +12,13 @@ use crate::limits::{
 };
 use crate::raw::{type_name_narrow, type_name_widen};
 
-/// A file of the old format in the format that is read: its spans become 8 bytes wide, and nothing else that it says changes.
+/// A file of the old format in the format that is read: its spans become 8 bytes wide, a standard of 255 becomes 254, and
+/// nothing else that it says changes.
 ///
-/// The old format has 4 bytes for each start and end, and head kind 256; `docs/FORMAT.md` describes it. The new file gets the
-/// answer and the tree that the old one got, and [`narrow`] gives the old one back. The row is not looked at: a file whose row
-/// is refused is widened like others.
+/// The old format has 4 bytes for each start and end, and head kind 256, and 255 means C18, C++17 or Fortran 2018 there, as 254
+/// does in the new one ([`archive_of`](crate::HostLanguageProfile::archive_of)); `docs/FORMAT.md` describes it. So the new file
+/// gets the answer and the tree that the old one got, and [`narrow`] gives the old one back, byte for byte. The row is not
+/// looked at: a file whose row is refused is widened like others.
 ///
 #[doc = "```"]
 #[doc = include_str!("../examples/convert.rs")]
@@ -25,7 +27,8 @@ use crate::raw::{type_name_narrow, type_name_widen};
 /// # Errors
 ///
 /// If the file is none of the old format: refusals 1 to 5, [`FileTooLong`](TypeNameError::FileTooLong) from
-/// [`OLD_MOST_BYTES`] + 1 bytes on. A file of the new format is [`InvalidHead`](TypeNameError::InvalidHead).
+/// [`OLD_MOST_BYTES`] + 1 bytes on. A file of the new format is [`InvalidHead`](TypeNameError::InvalidHead), standard 254 is
+/// [`UnknownProfile`](TypeNameError::UnknownProfile).
 ///
 /// # Panics
 ///
@@ -54,7 +57,11 @@ pub fn widen_into<'a>(file: &[u8], output: &'a mut [u8]) -> Result<&'a [u8], Con
     Conversion::Widen.into_buffer(file, output)
 }
 
-/// The inverse of [`widen`]: a file of the format that is read, in the old one. [`widen`] gives the file back.
+/// The inverse of [`widen`]: a file of the format that is read, in the old one.
+///
+/// A standard of 254 becomes 255, and one of 255 the number that C23, C++23 or Fortran 2023 has itself, as the old format has
+/// none that means them all. [`widen`] gives the file back, save that a standard of 255 comes back as that number, which means
+/// the same.
 ///
 /// # Errors
 ///

@@ -10,6 +10,10 @@
 #![doc = include_str!("../examples/lane.rs")]
 #![doc = "```"]
 //!
+//! The default standard of a language is the one that 255 means in a head record: C23, C++23 or Fortran 2023. Release archives
+//! were made when it was C18, C++17 or Fortran 2018; [`widen`] writes 254 for these, so that archives keep their answers, and
+//! [`HostLanguageProfile::archive_of`] gives them.
+//!
 //! The file's format, the token kinds, the tree and the refusals are described in the repository's `docs/FORMAT.md`. The
 //! crate links `libtype_name.a`, which `tools/library` makes; it needs `alloc` and no `std`.
 //!

@@ -17,7 +17,7 @@ numbered! {
 }
 
 numbered! {
-    /// A standard of C. The default is the one that 255 means.
+    /// A standard of C. The default, C23, is the one that 255 means in a head record.
     #[derive(Default)]
     CStandard {
         /// ISO/IEC 9899:1990, which ANSI made in 1989.
@@ -27,15 +27,15 @@ numbered! {
         /// ISO/IEC 9899:2011
         C11 = 2,
         /// ISO/IEC 9899:2018, also called C17.
-        #[default]
         C18 = 3,
         /// ISO/IEC 9899:2024
+        #[default]
         C23 = 4,
     }
 }
 
 numbered! {
-    /// A standard of C++. The default is the one that 255 means.
+    /// A standard of C++. The default, C++23, is the one that 255 means in a head record.
     #[derive(Default)]
     CppStandard {
         /// ISO/IEC 14882:1998
@@ -45,17 +45,17 @@ numbered! {
         /// ISO/IEC 14882:2014
         Cpp14 = 2,
         /// ISO/IEC 14882:2017
-        #[default]
         Cpp17 = 3,
         /// ISO/IEC 14882:2020
         Cpp20 = 4,
         /// ISO/IEC 14882:2024
+        #[default]
         Cpp23 = 5,
     }
 }
 
 numbered! {
-    /// A standard of Fortran. The default is the one that 255 means.
+    /// A standard of Fortran. The default, Fortran 2023, is the one that 255 means in a head record.
     #[derive(Default)]
     FortranStandard {
         /// ANSI X3.9-1978
@@ -69,14 +69,17 @@ numbered! {
         /// ISO/IEC 1539-1:2010
         Fortran2008 = 4,
         /// ISO/IEC 1539-1:2018
-        #[default]
         Fortran2018 = 5,
         /// ISO/IEC 1539-1:2023
+        #[default]
         Fortran2023 = 6,
     }
 }
 
-/// The standard in whose language a type name is read. The default is C++'s.
+/// The standard in whose language a type name is read. The default is C++23.
+///
+/// The defaults were C18, C++17 and Fortran 2018 until 255 came to mean newer standards. [`archive_of`](Self::archive_of) gives
+/// those, on which release archives rely.
 #[derive(Debug, Clone, Copy, PartialEq, Eq, Hash)]
 pub enum HostLanguageProfile {
     /// A standard of C.
@@ -88,16 +91,30 @@ pub enum HostLanguageProfile {
 }
 
 /// The standard number that means each language's default.
-const MEANT_STANDARD: u32 = 255;
+const STANDARD_DEFAULT: u32 = 255;
+
+/// The standard number that means the one on which release archives rely.
+const STANDARD_ARCHIVE: u32 = 254;
 
 impl HostLanguageProfile {
-    /// The language's default standard, the one that 255 means.
+    /// The language's default standard, the one that 255 means: C23, C++23 or Fortran 2023.
     #[must_use]
     pub fn default_of(language: HostLanguage) -> Self {
         match language {
             HostLanguage::C => Self::C(CStandard::default()),
             HostLanguage::Cpp => Self::Cpp(CppStandard::default()),
             HostLanguage::Fortran => Self::Fortran(FortranStandard::default()),
+        }
+    }
+
+    /// The language's standard on which release archives rely, the one that 254 means: C18, C++17 or Fortran 2018. In files of
+    /// the old format 255 means it; [`widen`](crate::widen) writes 254 for that, so that they keep it.
+    #[must_use]
+    pub const fn archive_of(language: HostLanguage) -> Self {
+        match language {
+            HostLanguage::C => Self::C(CStandard::C18),
+            HostLanguage::Cpp => Self::Cpp(CppStandard::Cpp17),
+            HostLanguage::Fortran => Self::Fortran(FortranStandard::Fortran2018),
         }
     }
 
@@ -111,7 +128,7 @@ impl HostLanguageProfile {
         }
     }
 
-    /// The standard's number in the head record; never 255.
+    /// The standard's own number in the head record; never 254 or 255.
     #[must_use]
     pub const fn standard(self) -> u32 {
         match self {
@@ -136,19 +153,19 @@ impl Default for HostLanguageProfile {
     }
 }
 
-/// The profile of a head record's language and standard; 255 gives the standard that it means.
+/// The profile of a head record's language and standard; 254 and 255 give the standard that they mean. In the old format, which
+/// only [`widen`](crate::widen) reads, 255 means what 254 means here, and 254 nothing.
 impl TryFrom<(u32, u32)> for HostLanguageProfile {
     type Error = UnknownNumberError;
 
     fn try_from((language, standard): (u32, u32)) -> Result<Self, Self::Error> {
         let language = HostLanguage::try_from(language)?;
-        if standard == MEANT_STANDARD {
-            return Ok(Self::default_of(language));
-        }
-        Ok(match language {
-            HostLanguage::C => Self::C(standard.try_into()?),
-            HostLanguage::Cpp => Self::Cpp(standard.try_into()?),
-            HostLanguage::Fortran => Self::Fortran(standard.try_into()?),
+        Ok(match (standard, language) {
+            (STANDARD_DEFAULT, _) => Self::default_of(language),
+            (STANDARD_ARCHIVE, _) => Self::archive_of(language),
+            (_, HostLanguage::C) => Self::C(standard.try_into()?),
+            (_, HostLanguage::Cpp) => Self::Cpp(standard.try_into()?),
+            (_, HostLanguage::Fortran) => Self::Fortran(standard.try_into()?),
         })
     }
 }

@@ -27,10 +27,10 @@ numbered! {
     }
 }
 
-/// How a type name is to be read. The default: C++17 with the structure check and [`AMPLE_ALLOWANCE`].
+/// How a type name is to be read. The default: C++23 with the structure check and [`AMPLE_ALLOWANCE`].
 #[derive(Debug, Clone, Copy, PartialEq, Eq)]
 pub struct Head {
-    /// Language and standard.
+    /// Language and standard. A [`Row`] holds the standard's own number, so that no change of what 254 and 255 mean touches it.
     pub profile: HostLanguageProfile,
     /// Whether the tree is checked for naming a type.
     pub structure: StructureCheck,

@@ -1,5 +1,5 @@
 //! Files brought over from the old format and back. Files are laid out here byte by byte, and the expected answers are worked
-//! out from document 02, C-14.
+//! out from document 02, C-14 and, of standards 254 and 255, C-16.
 
 mod support;
 
@@ -23,16 +23,20 @@ struct Format {
     head_kind: [u8; 2],
     /// Bytes of a span's start, and of its end.
     width: usize,
+    /// The standard number that means C18, C++17 or Fortran 2018.
+    archive: u8,
 }
 
 const OLD: Format = Format {
     head_kind: [0, 1],
     width: 4,
+    archive: 255,
 };
 
 const NEW: Format = Format {
     head_kind: [5, 1],
     width: 8,
+    archive: 254,
 };
 
 /// Language, standard, structure flag; all with an allowance of 1,000.
@@ -174,17 +178,19 @@ fn a_format_s_files_are_none_of_the_other() {
     assert_eq!(not_widened(&old_head), (4, 11));
 }
 
+/// How many standards each language has.
+const STANDARDS: [u8; 3] = [5, 6, 7];
+
 #[test]
 fn a_head_is_carried_over_as_it_stands() {
-    let standards = [5, 6, 7];
-    for (language, count) in (0..).zip(standards) {
-        for standard in (0..count).chain([255]) {
+    for (language, count) in (0..).zip(STANDARDS) {
+        for standard in 0..count {
             for flag in [0, 1] {
                 let head = [language, standard, flag];
                 converts(&file(OLD, head, &[]), &file(NEW, head, &[]));
             }
         }
-        for standard in [count, 254] {
+        for standard in [count, 253] {
             let head = [language, standard, 0];
             assert_eq!(not_widened(&file(OLD, head, &[])), (3, 0));
             assert_eq!(not_narrowed(&file(NEW, head, &[])), (3, 0));
@@ -204,6 +210,73 @@ fn a_head_is_carried_over_as_it_stands() {
     converts(&head, &new);
 }
 
+/// Where the formats have different numbers for a standard, the number changes and the standard stays.
+#[test]
+fn a_standard_keeps_its_meaning() {
+    let head = |format, language, standard| file(format, [language, standard, 1], &[]);
+    for (language, newest) in (0..).zip([4, 5, 6]) {
+        // The archive's: 255 as it was, 254 as it is.
+        converts(&head(OLD, language, 255), &head(NEW, language, 254));
+        // The default of today has no such number there: it becomes the standard's own, and stays so.
+        let narrowed = narrow(&head(NEW, language, 255)).unwrap();
+        assert_eq!(narrowed, head(OLD, language, newest));
+        let widened = widen(&narrowed).unwrap();
+        assert_eq!(widened, head(NEW, language, newest));
+        assert_eq!(narrow(&widened).unwrap(), narrowed);
+        // An old file has no 254.
+        assert_eq!(not_widened(&head(OLD, language, 254)), (3, 0));
+    }
+    // There is no language 3, and so no standard that these mean.
+    for standard in [254, 255] {
+        assert_eq!(not_widened(&head(OLD, 3, standard)), (3, 0));
+        assert_eq!(not_narrowed(&head(NEW, 3, standard)), (3, 0));
+    }
+}
+
+/// There and back, of every standard that a head may have: to the byte from the old format; from the new one, too, save where
+/// it has 255.
+#[test]
+fn what_comes_back() {
+    let records = [(0, 0, 3, "int"), (21, 3, 4, "")];
+    for (language, count) in (0..).zip(STANDARDS) {
+        for standard in (0..count).chain([255]) {
+            let old = file(OLD, [language, standard, 0], &records);
+            assert_eq!(narrow(&widen(&old).unwrap()).unwrap(), old);
+        }
+        for standard in (0..count).chain([254, 255]) {
+            let new = file(NEW, [language, standard, 0], &records);
+            let back = if standard == 255 { count - 1 } else { standard };
+            let expected = file(NEW, [language, back, 0], &records);
+            assert_eq!(widen(&narrow(&new).unwrap()).unwrap(), expected);
+        }
+    }
+}
+
+#[test]
+fn an_archive_s_file_keeps_its_answer() {
+    let records = [
+        (0, 0, 7, "_BitInt"),
+        (8, 7, 8, ""),
+        (2, 8, 9, ""),
+        (9, 9, 10, ""),
+    ];
+    let answer = |file: &[u8]| {
+        let mut answer = [AMPLE; ANSWER_LENGTH];
+        type_name_read(file, &mut tree_for(file), &mut answer);
+        answer
+    };
+    let old = file(OLD, [0, 255, 1], &records);
+    let widened = widen(&old).unwrap();
+    assert_eq!(widened, file(NEW, [0, 254, 1], &records));
+    assert_eq!(answer(&widened), [40, NO_TOKEN, 3, 5]);
+    // The same row by the default of today, there and back.
+    let new = file(NEW, [0, 255, 1], &records);
+    assert_eq!(answer(&new), [0, 3, 5, 0]);
+    let back = widen(&narrow(&new).unwrap()).unwrap();
+    assert_eq!(back, file(NEW, [0, 4, 1], &records));
+    assert_eq!(answer(&back), [0, 3, 5, 0]);
+}
+
 /// Neither conversion looks at the row: rows that are refused are converted.
 #[test]
 fn kinds_spans_and_words_are_carried_over() {
@@ -212,7 +285,7 @@ fn kinds_spans_and_words_are_carried_over() {
     records.push((0, 0x0403_0201, 0x0807_0605, &word));
     records.push((0, 0xffff_ffff, 0xffff_ffff, "a"));
     records.push((57, 0, 0, ""));
-    let [old, new] = [OLD, NEW].map(|format| file(format, [1, 255, 0], &records));
+    let [old, new] = [OLD, NEW].map(|format| file(format, [1, format.archive, 0], &records));
     assert_eq!(old.len(), 11 + 60 * 12 + 94 + 1);
     assert_eq!(new.len(), old.len() + 60 * 8);
     converts(&old, &new);
@@ -291,14 +364,15 @@ fn many_files_go_both_ways() {
                 (kind as u16, start, end, &longest[LONGEST_WORD - length..])
             })
             .collect();
-        let head = [chance.below(3) as u8, 255, chance.below(2) as u8];
-        let [old, new] = [OLD, NEW].map(|format| file(format, head, &records));
+        let (language, flag) = (chance.below(3) as u8, chance.below(2) as u8);
+        let head = |format: Format| [language, format.archive, flag];
+        let [old, new] = [OLD, NEW].map(|format| file(format, head(format), &records));
         converts(&old, &new);
         // One end beyond, in any record.
         if count > 0 {
             let mut beyond = records.clone();
             beyond[chance.below(count) as usize].2 += OVER;
-            assert_eq!(not_narrowed(&file(NEW, head, &beyond)), (7, 0));
+            assert_eq!(not_narrowed(&file(NEW, head(NEW), &beyond)), (7, 0));
         }
     }
 }

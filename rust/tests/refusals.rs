@@ -60,7 +60,7 @@ fn of_the_file() {
     ] {
         assert_eq!(number(&wrong), (TypeNameError::InvalidHead, 0));
     }
-    for unknown in [changed(4, 3), changed(5, 5)] {
+    for unknown in [changed(4, 3), changed(5, 5), changed(5, 253)] {
         assert_eq!(number(&unknown), (TypeNameError::UnknownProfile, 0));
     }
     let mut cut_off = row(c18(), "int *").bytes().to_vec();

@@ -15,11 +15,17 @@ use crate::source::{STANDARD_INPUT, row_file};
 const WIDEN_USAGE: &str = "\
 type-name widen [-o OUTPUT] FILE        brings a row file of the old format over to the one that is read
 type-name widen --into FOLDER FILE ..   brings each over, into a file of its name in FOLDER
+
+A head's standard keeps its meaning: 255, which means c18, c++17 or f2018 in the old format, becomes 254, which means these now.
+So the converted file gets the answer that FILE got before, and narrow gives FILE back.
 ";
 
 const NARROW_USAGE: &str = "\
 type-name narrow [-o OUTPUT] FILE       brings a row file back to the old format: the inverse of widen
 type-name narrow --into FOLDER FILE ..  brings each back, into a file of its name in FOLDER
+
+A head's standard keeps its meaning: 254 becomes 255, which means c18, c++17 or f2018 in the old format, and 255 becomes the
+number that c23, c++23 or f2023 has itself. widen gives FILE back, save that such a number stays where 255 was.
 ";
 
 const FORMS: &str = "

@@ -178,13 +178,17 @@ fn later_standard(text: &Text, reading: Reading) -> Option<Hint> {
     plain(format!("{accepting} accepts it: --standard {option}"))
 }
 
-/// Another language whose default standard accepts the text.
+/// Another language whose default standard accepts the text. Where the archive's standard was asked for, which goes with every
+/// language, that of the other accepts it, too.
 fn other_language(text: &Text, reading: Reading) -> Option<Hint> {
-    let now = text.head.profile.language();
+    let profile = text.head.profile;
+    let now = profile.language();
+    let is_archive = profile == HostLanguageProfile::archive_of(now);
     let mut others = HostLanguage::ALL.into_iter().filter(|&other| other != now);
-    let accepting = others.find(|&language| {
-        let profile = HostLanguageProfile::default_of(language);
-        accepts(profile, text, reading)
+    let accepting = others.find(|&other| {
+        let is_accepting = |of: HostLanguageProfile| accepts(of, text, reading);
+        is_accepting(HostLanguageProfile::default_of(other))
+            && (!is_archive || is_accepting(HostLanguageProfile::archive_of(other)))
     })?;
     let option = language_option(accepting);
     plain(format!(

@@ -17,7 +17,8 @@ and none of < > ( ) [ ] * & , : and blanks) is an error, so that no file's name 
 Of a TEXT:
     --language c|c++|fortran  its language, c++ unless said
     --standard NAME           its standard: c89, c99, c11, c18, c23; c++98, c++11, c++14, c++17, c++20, c++23;
-                              f77, f90, f95, f2003, f2008, f2018, f2023. Unless said: c18, c++17, f2018
+                              f77, f90, f95, f2003, f2008, f2018, f2023. Unless said: c23, c++23 or f2023, which 255 means
+                              in a ROW. archive: c18, c++17 or f2018, which 254 means, and on which release archives rely
     --no-structure            do not check that the tree names a type
     --text TEXT               the TEXT, even if it looks like a path
 Of both:

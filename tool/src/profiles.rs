@@ -11,6 +11,9 @@ const LANGUAGES: [(&str, HostLanguage); 4] = [
     ("fortran", HostLanguage::Fortran),
 ];
 
+/// Stands for the standard of any language on which release archives rely.
+const ARCHIVE: &str = "archive";
+
 /// Second names of standards, as compilers have them.
 const OTHER_NAMES: [(&str, &str); 2] = [("c90", "c89"), ("c17", "c18")];
 
@@ -27,16 +30,19 @@ pub fn language_option(language: HostLanguage) -> &'static str {
     name.unwrap_or_default()
 }
 
-/// The profile of the options: C++17 unless said.
+/// The profile of the options: C++23 unless said.
 pub fn profile(
     language: Option<&str>,
     standard: Option<&str>,
 ) -> Result<HostLanguageProfile, Wrong> {
     let language = language.map(named_language).transpose()?;
+    let or_default = language.unwrap_or(HostLanguageProfile::default().language());
     let Some(standard) = standard else {
-        let language = language.unwrap_or(HostLanguageProfile::default().language());
-        return Ok(HostLanguageProfile::default_of(language));
+        return Ok(HostLanguageProfile::default_of(or_default));
     };
+    if standard.eq_ignore_ascii_case(ARCHIVE) {
+        return Ok(HostLanguageProfile::archive_of(or_default));
+    }
     let profile = named_standard(standard)?;
     match language {
         Some(language) if language != profile.language() => Err(Wrong(format!(
@@ -61,6 +67,7 @@ fn named_standard(name: &str) -> Result<HostLanguageProfile, Wrong> {
     let found = HostLanguageProfile::all().find(|profile| option_name(*profile) == wanted);
     found.ok_or_else(|| {
         let names: Vec<String> = HostLanguageProfile::all().map(option_name).collect();
-        Wrong(format!("no standard `{name}`: {}", names.join(", ")))
+        let names = names.join(", ");
+        Wrong(format!("no standard `{name}`: {names} or {ARCHIVE}"))
     })
 }

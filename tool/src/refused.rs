@@ -2,7 +2,7 @@
 
 use std::ops::Range;
 
-use type_name::{ListRefusal, PartPlace, Refusal, Tokens, TypeNameError};
+use type_name::{HostLanguageProfile, ListRefusal, PartPlace, Refusal, Tokens, TypeNameError};
 
 use crate::excerpt::excerpt;
 use crate::hints::Hint;
@@ -58,22 +58,28 @@ fn with_hint(said: String, hint: Option<&Hint>) -> String {
 
 /// The text, with a place in it; the profile, where it decides.
 fn in_text(text: &Text, refusal: Refusal, place: Option<Range<usize>>) -> String {
-    let profile = match refusal.error {
-        TypeNameError::NotAvailableInProfile => format!(" ({})", text.head.profile),
-        _ => String::new(),
-    };
+    let profile = deciding(refusal, Some(text.head.profile));
     format!("{profile}\n{}", excerpt(&text.text, place))
 }
 
-/// The token that is named, as a row file has it; which one of the row it is.
+/// The token that is named, as a row file has it; which one of the row it is. The profile as in a text.
 fn in_file(source: &Source, refusal: Refusal, of_row: Option<u32>) -> String {
+    let profile = deciding(refusal, source.profile());
     let token = of_row.and_then(|number| Tokens::new(&source.file).nth(number as usize));
     match (refusal.token, token) {
         (Some(number), Some(token)) => {
             let spelling = source.spelling(token);
             let (start, end) = (token.start, token.end);
-            format!("\n    token {number}: `{spelling}`, from {start} to {end}\n")
+            format!("{profile}\n    token {number}: `{spelling}`, from {start} to {end}\n")
         }
-        _ => "\n".to_owned(),
+        _ => format!("{profile}\n"),
+    }
+}
+
+/// The profile in parentheses, if the refusal comes of it.
+fn deciding(refusal: Refusal, profile: Option<HostLanguageProfile>) -> String {
+    match (refusal.error, profile) {
+        (TypeNameError::NotAvailableInProfile, Some(profile)) => format!(" ({profile})"),
+        _ => String::new(),
     }
 }

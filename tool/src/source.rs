@@ -6,7 +6,9 @@ use std::io::{self, Read};
 use std::ops::Range;
 use std::path::Path;
 
-use type_name::{Head, MOST_BYTES, PartPlace, Row, Token, TokenKind, limit_allowance};
+use type_name::{
+    Head, HostLanguageProfile, MOST_BYTES, PartPlace, Row, Token, TokenKind, limit_allowance,
+};
 
 use crate::cli::Wrong;
 use crate::excerpt::excerpt;
@@ -74,6 +76,14 @@ impl Source {
             limit_allowance(&mut file, most);
         }
         Ok(Self { file, text: None })
+    }
+
+    /// The standard that the head means, be it by its own number or by 254 or 255.
+    pub fn profile(&self) -> Option<HostLanguageProfile> {
+        let &[_, _, _, _, language, standard, ..] = self.file.as_slice() else {
+            return None;
+        };
+        HostLanguageProfile::try_from((language.into(), standard.into())).ok()
     }
 
     /// How a token is spelled: as the text has it, else its word, else as its kind is spelled.

@@ -27,7 +27,7 @@ fn texts_with_a_slash_are_texts() {
 
 /// Wrong calls, and what each is told.
 #[rustfmt::skip]
-const WRONG: [(&[&str], &str); 43] = [
+const WRONG: [(&[&str], &str); 45] = [
     (&[], "a command is missing"),
     (&["reed", "int"], "no command `reed`"),
     (&["read"], "a TEXT or --file ROW is missing"),
@@ -35,6 +35,7 @@ const WRONG: [(&[&str], &str); 43] = [
     (&["read", "--lang", "c", "int"], "no option --lang"),
     (&["read", "--language", "pascal", "int"], "no language `pascal`"),
     (&["read", "--standard", "c++18", "int"], "no standard `c++18`"),
+    (&["read", "--standard", "archives", "int"], "f2018, f2023 or archive\n"),
     (&["read", "--language", "c", "--standard", "f77", "int"], "f77 is no standard of C"),
     (&["read", "int", "--allowance"], "--allowance needs a value"),
     (&["read", "int", "--allowance", "-1"], "--allowance needs a whole number"),
@@ -45,6 +46,7 @@ const WRONG: [(&[&str], &str); 43] = [
     (&["read", "--list", "lane.row"], "--file reads a row file"),
     (&["read", "--file", "lane.row", "int"], "one of TEXT"),
     (&["read", "--file", "lane.row", "--language", "c"], "the row file says what --language would"),
+    (&["read", "--file", "lane.row", "--standard", "archive"], "the row file says what --standard would"),
     (&["outer"], "a TEXT or --file ROW is missing"),
     (&["outer", "int", "long"], "`long` is one word too many"),
     (&["outer", "lane.row"], "--file reads a row file"),
