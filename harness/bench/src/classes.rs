@@ -57,7 +57,7 @@ pub fn classes(corpus: &str) -> Vec<Class> {
 const EXPRESSIONS: [(&str, HostLanguage); 2] =
     [("C", HostLanguage::C), ("Fortran", HostLanguage::Fortran)];
 
-/// Under 254, which means what 255 meant when the first figures were taken, unless the title says 255.
+/// Under 254, as all that is not generated: it means what 255 meant when the first figures were taken. Unless the title says 255.
 #[rustfmt::skip]
 const CORPUS: [(&str, Option<&str>, u8, u8); 6] = [
     ("corpus, flag 1", None, ARCHIVE_STANDARD, 1),
@@ -205,7 +205,9 @@ fn expression(language: HostLanguage) -> Row {
         .flat_map(|&kind| [plain(kind), word("a")])
         .take(MOST_TOKENS - around)
         .collect();
-    operators::between_operands(language, &tokens)
+    let mut row = operators::between_operands(language, &tokens);
+    row.head.standard = ARCHIVE_STANDARD;
+    row
 }
 
 /// Between two operands the original takes operators, and what a name follows.

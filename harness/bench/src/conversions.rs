@@ -3,7 +3,7 @@
 use std::hint::black_box;
 use std::time::Instant;
 
-use harness::conversions::model::Conversion;
+use harness::conversions::model::{Conversion, narrow};
 use harness::format::{ANSWER_LENGTH, Row};
 use type_name::{type_name_narrow, type_name_widen};
 
@@ -26,17 +26,19 @@ fn entry(conversion: Conversion) -> Convert {
     }
 }
 
-/// The rows' files, with spans as a lexer gives them, each with the length of the converted one.
+/// The rows' files in the format that is converted, with spans as a lexer gives them, each with the length of the other one.
 fn files(rows: &[Row], conversion: Conversion) -> Vec<(Vec<u8>, usize)> {
     let one = |row: &Row| {
         let mut row = row.clone();
         for (number, token) in (0..).zip(&mut row.tokens) {
             (token.start, token.end) = (2 * number, 2 * number + 1);
         }
-        let file = conversion.source().write(&row);
-        let converted = conversion.convert(&file, usize::MAX);
-        let length = converted.expect("an old form that is not too long").len();
-        (file, length)
+        let current = row.write();
+        let old = narrow(&current, usize::MAX).expect("an old form that is not too long");
+        match conversion {
+            Conversion::Widen => (old, current.len()),
+            Conversion::Narrow => (current, old.len()),
+        }
     };
     rows.iter().map(one).collect()
 }
