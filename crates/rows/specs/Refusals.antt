@@ -9,7 +9,7 @@ use Rattle.rows.specs.declared.answer.Feature.{Feature}
 use Rattle.rows.specs.declared.answer.Feature.the-variants.{LongLong, Atomic, BitInt, Typeof, TypeofUnqual, Decltype, RvalueReference, Selector, DerivedType, Class, AssumedTypeOrRank}
 use Rattle.rows.specs.declared.answer.Refusal.{Refusal}
 use Rattle.rows.specs.declared.answer.TypeNameError.{TypeNameError}
-use Rattle.rows.specs.declared.answer.TypeNameError.the-variants.{FileTooLong, InvalidHead, UnknownProfile, InvalidRecord, TooManyRecords, ShortBuffer, OffsetOver32Bits, Empty, UnexpectedClosingDelimiter, UnexpectedAngle, TopLevelComma, UnexpectedEndToken, UnclosedDelimiter, UnclosedAngle, MissingTypeWord, InvalidBoundaryToken, NestingLimitExceeded, UnterminatedGroup, MismatchedClosingDelimiter, UnexpectedTokenAfterTypeName, AllowancePassed, NoTypeName, NotAvailableInProfile, InvalidRuleTable, NoRuleMatches}
+use Rattle.rows.specs.declared.answer.TypeNameError.the-variants.{FileTooLong, InvalidHead, UnknownProfile, InvalidRecord, TooManyRecords, ShortBuffer, OffsetOver32Bits, Empty, UnexpectedClosingDelimiter, UnexpectedAngle, TopLevelComma, UnexpectedEndToken, UnclosedDelimiter, UnclosedAngle, MissingTypeWord, InvalidBoundaryToken, NestingLimitExceeded, UnterminatedGroup, MismatchedClosingDelimiter, UnexpectedTokenAfterTypeName, AllowancePassed, NoTypeName, NotAvailableInProfile, InvalidRuleTable, NoRuleMatches, InvalidNameList, ShiftWithoutList, EmptyOrUnclosedList}
 
 -- "Token (65,535 if none)".
 abbrev pub no-token : ℕ
@@ -72,3 +72,8 @@ refusalOf OffsetOver32Bits = plainly 7
 -- C-11: "New numbers: 50 rule table not of this form or of over 256 rules ..; 51 no rule matches".
 refusalOf InvalidRuleTable = plainly 50
 refusalOf NoRuleMatches = plainly 51
+-- C-17: "New numbers: 8 name list malformed or language not C++ ..; 26 second half of a `>>` without a list at that depth, in reading; 27 list empty,
+-- with an empty argument or not closed, in reading".
+refusalOf InvalidNameList = plainly 8
+refusalOf ShiftWithoutList = plainly 26
+refusalOf EmptyOrUnclosedList = plainly 27

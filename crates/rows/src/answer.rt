@@ -40,6 +40,7 @@ pub enum TypeNameError {
     TooManyRecords,
     ShortBuffer,
     OffsetOver32Bits,
+    InvalidNameList,
     Empty,
     UnexpectedClosingDelimiter {
         expected: Open,
@@ -69,6 +70,8 @@ pub enum TypeNameError {
     MismatchedClosingDelimiter,
     UnexpectedTokenAfterTypeName,
     AllowancePassed,
+    ShiftWithoutList,
+    EmptyOrUnclosedList,
     NoTypeName,
     NotAvailableInProfile(Feature),
     InvalidRuleTable,
@@ -154,6 +157,7 @@ pub fn refusal_of(error: TypeNameError) -> Refusal
         TypeNameError::TooManyRecords => plain(5),
         TypeNameError::ShortBuffer => plain(6),
         TypeNameError::OffsetOver32Bits => plain(7),
+        TypeNameError::InvalidNameList => plain(8),
         TypeNameError::Empty => plain(10),
         TypeNameError::UnexpectedClosingDelimiter {
             expected,
@@ -175,6 +179,8 @@ pub fn refusal_of(error: TypeNameError) -> Refusal
         TypeNameError::MismatchedClosingDelimiter => plain(22),
         TypeNameError::UnexpectedTokenAfterTypeName => plain(23),
         TypeNameError::AllowancePassed => plain(25),
+        TypeNameError::ShiftWithoutList => plain(26),
+        TypeNameError::EmptyOrUnclosedList => plain(27),
         TypeNameError::NoTypeName => plain(30),
         TypeNameError::NotAvailableInProfile(feature) => {
             detailed(40, NO_TOKEN, feature_detail(feature))

@@ -16,7 +16,7 @@ use Rattle.rows.specs.Refusals.{refusalOf}
 use Rattle.rows.specs.Laws.Tests.{by-if}
 use Rattle.rows.specs.Laws.Numbered.{Between}
 use Rattle.rows.specs.declared.answer.TypeNameError.{TypeNameError}
-use Rattle.rows.specs.declared.answer.TypeNameError.the-variants.{FileTooLong, InvalidHead, UnknownProfile, InvalidRecord, TooManyRecords, ShortBuffer, OffsetOver32Bits, Empty, UnexpectedClosingDelimiter, UnexpectedAngle, TopLevelComma, UnexpectedEndToken, UnclosedDelimiter, UnclosedAngle, MissingTypeWord, InvalidBoundaryToken, NestingLimitExceeded, UnterminatedGroup, MismatchedClosingDelimiter, UnexpectedTokenAfterTypeName, AllowancePassed, NoTypeName, NotAvailableInProfile, InvalidRuleTable, NoRuleMatches}
+use Rattle.rows.specs.declared.answer.TypeNameError.the-variants.{FileTooLong, InvalidHead, UnknownProfile, InvalidRecord, TooManyRecords, ShortBuffer, OffsetOver32Bits, Empty, UnexpectedClosingDelimiter, UnexpectedAngle, TopLevelComma, UnexpectedEndToken, UnclosedDelimiter, UnclosedAngle, MissingTypeWord, InvalidBoundaryToken, NestingLimitExceeded, UnterminatedGroup, MismatchedClosingDelimiter, UnexpectedTokenAfterTypeName, AllowancePassed, NoTypeName, NotAvailableInProfile, InvalidRuleTable, NoRuleMatches, InvalidNameList, ShiftWithoutList, EmptyOrUnclosedList}
 use Rattle.rows.specs.declared.answer.Answer.the-variants.{Refused}
 use Rattle.prescan.specs.Prescan.{Scan, Scanned, passed, prescan}
 use Rattle.prescan.specs.Prescan
@@ -40,7 +40,7 @@ use Rattle.type_name.specs.Laws.FileRow.{Comes, file-comes}
 
 -- The refusals of document 01's table, and document 02's new numbers.
 abbrev pub numbers : List ℕ
-numbers = 1 ∷ 2 ∷ 3 ∷ 4 ∷ 5 ∷ 6 ∷ 7 ∷ 10 ∷ 11 ∷ 12 ∷ 13 ∷ 14 ∷ 15 ∷ 16 ∷ 17 ∷ 18 ∷ 20 ∷ 21 ∷ 22 ∷ 23 ∷ 25 ∷ 30 ∷ 40 ∷ 50 ∷ 51 ∷ []
+numbers = 1 ∷ 2 ∷ 3 ∷ 4 ∷ 5 ∷ 6 ∷ 7 ∷ 8 ∷ 10 ∷ 11 ∷ 12 ∷ 13 ∷ 14 ∷ 15 ∷ 16 ∷ 17 ∷ 18 ∷ 20 ∷ 21 ∷ 22 ∷ 23 ∷ 25 ∷ 26 ∷ 27 ∷ 30 ∷ 40 ∷ 50 ∷ 51 ∷ []
 
 pub listed : (e : TypeNameError) → T (refusalOf e .number is-one-of numbers)
 unfolding _is-one-of_
@@ -69,6 +69,9 @@ listed NoTypeName = tt
 listed (NotAvailableInProfile feature) = tt
 listed InvalidRuleTable = tt
 listed NoRuleMatches = tt
+listed InvalidNameList = tt
+listed ShiftWithoutList = tt
+listed EmptyOrUnclosedList = tt
 
 -- ---- refusals up to 6 come before the row is read, the others after
 

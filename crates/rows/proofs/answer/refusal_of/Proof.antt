@@ -59,6 +59,12 @@ enum-told-7 c = search needs
 plain-requires-7 : tie.Need-plain-requires-7
 plain-requires-7 c κs = search needs
 
+enum-told-8 : tie.Need-enum-told-8
+enum-told-8 c = search needs
+
+plain-requires-8 : tie.Need-plain-requires-8
+plain-requires-8 c κs = search needs
+
 enum-known-error-2 : tie.Need-enum-known-error-2
 enum-known-error-2 c = search needs
 
@@ -97,12 +103,6 @@ enum-known-error-7 c = search needs
 
 at-requires-5 : tie.Need-at-requires-5
 at-requires-5 c κs = search needs
-
-enum-told-8 : tie.Need-enum-told-8
-enum-told-8 c = search needs
-
-plain-requires-8 : tie.Need-plain-requires-8
-plain-requires-8 c κs = search needs
 
 enum-told-9 : tie.Need-enum-told-9
 enum-told-9 c = search needs
@@ -146,15 +146,6 @@ enum-told-15 c = search needs
 plain-requires-15 : tie.Need-plain-requires-15
 plain-requires-15 c κs = search needs
 
-enum-known-error-8 : tie.Need-enum-known-error-8
-enum-known-error-8 c = search needs
-
-feature-detail-requires : tie.Need-feature-detail-requires
-feature-detail-requires c κs = search needs
-
-detailed-requires-3 : tie.Need-detailed-requires-3
-detailed-requires-3 c κs = search needs
-
 enum-told-16 : tie.Need-enum-told-16
 enum-told-16 c = search needs
 
@@ -166,6 +157,33 @@ enum-told-17 c = search needs
 
 plain-requires-17 : tie.Need-plain-requires-17
 plain-requires-17 c κs = search needs
+
+enum-told-18 : tie.Need-enum-told-18
+enum-told-18 c = search needs
+
+plain-requires-18 : tie.Need-plain-requires-18
+plain-requires-18 c κs = search needs
+
+enum-known-error-8 : tie.Need-enum-known-error-8
+enum-known-error-8 c = search needs
+
+feature-detail-requires : tie.Need-feature-detail-requires
+feature-detail-requires c κs = search needs
+
+detailed-requires-3 : tie.Need-detailed-requires-3
+detailed-requires-3 c κs = search needs
+
+enum-told-19 : tie.Need-enum-told-19
+enum-told-19 c = search needs
+
+plain-requires-19 : tie.Need-plain-requires-19
+plain-requires-19 c κs = search needs
+
+enum-told-20 : tie.Need-enum-told-20
+enum-told-20 c = search needs
+
+plain-requires-20 : tie.Need-plain-requires-20
+plain-requires-20 c κs = search needs
 
 returns : tie.Need-returns
 returns c = rw (c .before .enum-told .given .1) (c .plain .ensures)
@@ -192,25 +210,25 @@ returns-8 : tie.Need-returns-8
 returns-8 c = rw (c .before .enum-told7 .given .1) (c .plain7 .ensures)
 
 returns-9 : tie.Need-returns-9
-returns-9 c = rw (c .before .before .before .error2 .given .1) (rw (c .before .open-detail .ensures) at (c .detailed2 .ensures))
+returns-9 c = rw (c .before .enum-told8 .given .1) (c .plain8 .ensures)
 
 returns-10 : tie.Need-returns-10
-returns-10 c = rw (c .before .before .error3 .given .1) (c .at .ensures)
+returns-10 c = rw (c .before .before .before .error2 .given .1) (rw (c .before .open-detail .ensures) at (c .detailed2 .ensures))
 
 returns-11 : tie.Need-returns-11
-returns-11 c = rw (c .before .before .error4 .given .1) (c .at2 .ensures)
+returns-11 c = rw (c .before .before .error3 .given .1) (c .at .ensures)
 
 returns-12 : tie.Need-returns-12
-returns-12 c = rw (c .before .before .error5 .given .1) (c .at3 .ensures)
+returns-12 c = rw (c .before .before .error4 .given .1) (c .at2 .ensures)
 
 returns-13 : tie.Need-returns-13
-returns-13 c = rw (c .before .before .error6 .given .1) (c .at4 .ensures)
+returns-13 c = rw (c .before .before .error5 .given .1) (c .at3 .ensures)
 
 returns-14 : tie.Need-returns-14
-returns-14 c = rw (c .before .before .error7 .given .1) (c .at5 .ensures)
+returns-14 c = rw (c .before .before .error6 .given .1) (c .at4 .ensures)
 
 returns-15 : tie.Need-returns-15
-returns-15 c = rw (c .before .enum-told8 .given .1) (c .plain8 .ensures)
+returns-15 c = rw (c .before .before .error7 .given .1) (c .at5 .ensures)
 
 returns-16 : tie.Need-returns-16
 returns-16 c = rw (c .before .enum-told9 .given .1) (c .plain9 .ensures)
@@ -234,13 +252,22 @@ returns-22 : tie.Need-returns-22
 returns-22 c = rw (c .before .enum-told15 .given .1) (c .plain15 .ensures)
 
 returns-23 : tie.Need-returns-23
-returns-23 c = rw (c .before .before .before .error8 .given .1) (rw (c .before .feature-detail .ensures) at (c .detailed3 .ensures))
+returns-23 c = rw (c .before .enum-told16 .given .1) (c .plain16 .ensures)
 
 returns-24 : tie.Need-returns-24
-returns-24 c = rw (c .before .enum-told16 .given .1) (c .plain16 .ensures)
+returns-24 c = rw (c .before .enum-told17 .given .1) (c .plain17 .ensures)
 
 returns-25 : tie.Need-returns-25
-returns-25 c = rw (c .before .enum-told17 .given .1) (c .plain17 .ensures)
+returns-25 c = rw (c .before .enum-told18 .given .1) (c .plain18 .ensures)
+
+returns-26 : tie.Need-returns-26
+returns-26 c = rw (c .before .before .before .error8 .given .1) (rw (c .before .feature-detail .ensures) at (c .detailed3 .ensures))
+
+returns-27 : tie.Need-returns-27
+returns-27 c = rw (c .before .enum-told19 .given .1) (c .plain19 .ensures)
+
+returns-28 : tie.Need-returns-28
+returns-28 c = rw (c .before .enum-told20 .given .1) (c .plain20 .ensures)
 
 pub refusal-of-spec : {M : Type 1} → statement M
 refusal-of-spec =
@@ -262,6 +289,8 @@ refusal-of-spec =
     plain-requires-6
     enum-told-7
     plain-requires-7
+    enum-told-8
+    plain-requires-8
     enum-known-error-2
     open-detail-requires
     detailed-requires-2
@@ -275,8 +304,6 @@ refusal-of-spec =
     at-requires-4
     enum-known-error-7
     at-requires-5
-    enum-told-8
-    plain-requires-8
     enum-told-9
     plain-requires-9
     enum-told-10
@@ -291,13 +318,19 @@ refusal-of-spec =
     plain-requires-14
     enum-told-15
     plain-requires-15
-    enum-known-error-8
-    feature-detail-requires
-    detailed-requires-3
     enum-told-16
     plain-requires-16
     enum-told-17
     plain-requires-17
+    enum-told-18
+    plain-requires-18
+    enum-known-error-8
+    feature-detail-requires
+    detailed-requires-3
+    enum-told-19
+    plain-requires-19
+    enum-told-20
+    plain-requires-20
     returns
     returns-2
     returns-3
@@ -322,4 +355,7 @@ refusal-of-spec =
     returns-22
     returns-23
     returns-24
-    returns-25)
+    returns-25
+    returns-26
+    returns-27
+    returns-28)
