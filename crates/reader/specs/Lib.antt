@@ -1,6 +1,7 @@
 pub mod Nodes
 pub mod Reading
 pub mod Tables
+pub mod Derivation
 pub mod Written
 pub mod Standing
 pub mod Allowance

@@ -2,4 +2,4 @@
 
 pub mod nodes;
 pub mod parser;
-mod tables;
+pub mod tables;

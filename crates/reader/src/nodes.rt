@@ -1,9 +1,9 @@
 // Node records: document 01, "Node record".
 
 ghost use mathlib.Core.Path.{_≡_};
-ghost use Prim.Native.Nat.{_≤_, _<_, _^_};
+ghost use Prim.Native.Nat.{_+_, _*_, _≤_, _<_, _^_};
 ghost use mathlib.Core.List.{_∷_};
-ghost use lib.ListN.{length, drop};
+ghost use lib.ListN.{length, drop, set};
 ghost use Rattle.reader.specs.Nodes.{extent-of, kind-of, node-width, Recorded, token-of, numbers-bound};
 
 // A node's numbers: kind, token number, extent.
@@ -61,4 +61,12 @@ pub fn put_node(tree: &mut [u32], kind: u32, token: usize, extent: usize)
     tree[0] = kind;
     tree[1] = token as u32;
     tree[2] = extent as u32;
+}
+
+// Writes another extent into the record of a node.
+pub fn put_extent(tree: &mut [u32], node: usize, extent: usize)
+    requires { ⌜ Recorded (now tree) node × (extent < numbers-bound) ⌝ }
+    ensures { λ _. ⌜ now (tree .exit) ≡ set (now (tree .entry)) (node-width * node + 2) extent ⌝ }
+{
+    tree[NODE_WIDTH * node + 2] = extent as u32;
 }

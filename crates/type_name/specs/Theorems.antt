@@ -22,6 +22,7 @@ use Rattle.reader.specs.Reading.{MAX-NESTING-DEPTH, got, reading}
 use Rattle.reader.specs.Standing.{depth, tokens-of, tokens-of-kind}
 use Rattle.reader.specs.Written.{Token, written, halved, closing-angles, without-closing-angles}
 use Rattle.reader.specs.Laws.Tokens.{KindsKnown}
+use Rattle.reader.specs.Laws.Derived.{row-derived}
 use Rattle.reader.specs.Laws.Bounds as Bounds
 use Rattle.reader.specs.Laws.Openers as Openers
 use Rattle.reader.specs.Laws.WrittenOut.{kinds-in, Worded}
@@ -81,32 +82,32 @@ brackets-paired = prescan-pairs
 module _ (kinds : List ℕ) (known : KindsKnown kinds) (cpp : Bool) {x : Nodes} {at : ℕ} {half : Bool} {m : ℕ} (e : reading cpp kinds ≡ got x at half m) where
   -- Nothing is left over.
   pub nothing-left : (at ≡ length kinds) × (half ≡ false)
-  nothing-left = Bounds.nothing-left kinds cpp e known
+  nothing-left = Bounds.nothing-left kinds (row-derived kinds cpp e) known
 
   -- "Groups and lists nest to 64."
   pub nesting : depth x ≤ MAX-NESTING-DEPTH
-  nesting = Bounds.nesting kinds cpp e
+  nesting = Bounds.nesting kinds (row-derived kinds cpp e)
 
   -- "Every `(` has exactly one G, every `[` exactly one B, no other G or B stands in the tree."
   pub one-G-each : tokens-of G-node x ≡ tokens-of-kind LeftParen 0 kinds
-  one-G-each = Openers.one-G-each kinds known cpp e
+  one-G-each = Openers.one-G-each kinds known (row-derived kinds cpp e)
 
   pub one-B-each : tokens-of B-node x ≡ tokens-of-kind LeftBracket 0 kinds
-  one-B-each = Openers.one-B-each kinds known cpp e
+  one-B-each = Openers.one-B-each kinds known (row-derived kinds cpp e)
 
 module _ (row : List Token) (worded : Worded row) (known : KindsKnown (kinds-in row)) (cpp : Bool) {x : Nodes} {at : ℕ} {half : Bool} {m : ℕ}
     (e : reading cpp (kinds-in row) ≡ got x at half m) where
   -- "The tree written out and the row, each `>>` in both taken as two `>`, have `>` equally often,
   pub closing-angles-as-often : closing-angles (halved (written row x)) ≡ closing-angles (halved row)
-  closing-angles-as-often = Writing.closing-angles-as-often row worded known cpp e
+  closing-angles-as-often = Writing.closing-angles-as-often row worded known (row-derived (kinds-in row) cpp e)
 
   -- are the same list once every `>` is left out,
   pub else-same : without-closing-angles (halved (written row x)) ≡ without-closing-angles (halved row)
-  else-same = Writing.else-same row worded known cpp e
+  else-same = Writing.else-same row worded known (row-derived (kinds-in row) cpp e)
 
   -- and are the same list throughout if the row has no `>>`."
   pub same-throughout : tokens-of-kind ShiftRight 0 (kinds-in row) ≡ [] → written row x ≡ row
-  same-throughout = Writing.same-throughout row worded known cpp e
+  same-throughout = Writing.same-throughout row worded known (row-derived (kinds-in row) cpp e)
 
 -- "The same tree, node count and steps come back under every allowance not below those steps, together with the same or any later standard."
 pub stable : (language standard standard′ flag : ℕ) (kinds words : List ℕ) (allowance : ℕ) (x : Nodes) (steps : ℕ) → RowAccepted language standard flag kinds words x steps

@@ -12,7 +12,8 @@ use Rattle.rows.specs.Kinds.{Identifier, LeftParen, RightParen, LeftBracket, Ri
 use Rattle.rows.specs.Laws.Tests.{by-if}
 use Rattle.reader.specs.Nodes.{NodeKind, T-node, L-node, A-node, Nodes, none, node, count}
 use Rattle.reader.specs.Reading.{Region, top, round, square, argument, list, Fault, Next, ends, stops, token, group, angle, first, Got, got, bad, case, before, is-angle-close, starts, next, kindAt, MAX-NESTING-DEPTH, Reader, down, argued, go, turn, readF, read, reading}
-use Rattle.reader.specs.Laws.Derived.{Opens, parens, brackets, nodal, Allowed, next-allowed}
+use Rattle.reader.specs.Derivation.{Opens, parens, brackets, nodal}
+use Rattle.reader.specs.Laws.Derived.{Allowed, next-allowed}
 use Rattle.type_name.specs.Laws.AcceptedRow.{RowRead, RowComes, row-comes, accepted-read}
 use Rattle.type_name.specs.Answers.{accepted, answerOf}
 use Rattle.type_list.specs.Laws.Starts.{read-starts}
@@ -31,7 +32,22 @@ OfRegion square x = Unit {0}
 OfRegion argument x = Unit {0}
 OfRegion list x = SomeArguments x
 
-of-nodal : (l : Region) → T (nodal l) → (x : Nodes) → OfRegion l x
+-- Nodes are read at this level; at `list`, arguments.
+abbrev has-nodes : Region → Bool
+has-nodes top = true
+has-nodes round = true
+has-nodes square = true
+has-nodes argument = true
+has-nodes list = false
+
+nodal-has : (l : Region) (h : Bool) → T (nodal l h) → T (has-nodes l)
+nodal-has top h t = tt
+nodal-has round h t = tt
+nodal-has square h t = tt
+nodal-has argument h t = tt
+nodal-has list h t = t
+
+of-nodal : (l : Region) → T (has-nodes l) → (x : Nodes) → OfRegion l x
 of-nodal top t x = tt
 of-nodal round t x = tt
 of-nodal square t x = tt
@@ -56,7 +72,7 @@ module _ (cpp : Bool) (row : List ℕ) where
 
   -- What is known besides where `next` says what is to be done.
   abbrev Told : Region → (w : Bool) (a : ℕ) → Next → Type 0
-  Told l w a (ends a′) = T (nodal l)
+  Told l w a (ends a′) = T (has-nodes l)
   Told l w a (stops e) = Unit {0}
   Told l w a (token v) = v ≡ eqb (kindAt row a) Identifier
   Told l w a (group k v) = Unit {0}
@@ -123,7 +139,7 @@ module _ (cpp : Bool) (row : List ℕ) where
 
     module _ (l : Region) (d n : ℕ) (w : Bool) (a : ℕ) (h : Bool) where
       -- The T of a token, before what comes of the rest of the region.
-      token-forms : T (nodal l) → (v : Bool) → v ≡ eqb (kindAt row a) Identifier → (m : ℕ) → Forms l w (before T-node a none m (read l d n v (suc a) h))
+      token-forms : T (has-nodes l) → (v : Bool) → v ≡ eqb (kindAt row a) Identifier → (m : ℕ) → Forms l w (before T-node a none m (read l d n v (suc a) h))
       unfolding is-word
       token-forms t v e m =
           before-forms l w T-node a none m (read l d n v (suc a) h) refl tt (λ x _. of-nodal l t (node T-node a none x))
@@ -133,16 +149,16 @@ module _ (cpp : Bool) (row : List ℕ) where
       unfolding go is-word
       go-forms (ends a′) p t = (tt, of-nodal l t none)
       go-forms (stops e) p t = tt
-      go-forms (token v) p t = token-forms (p .0) v t 1
+      go-forms (token v) p t = token-forms (nodal-has l h (p .0)) v t 1
       go-forms (group k v) (t, o, c, op, e) _ =
           by-case v false (Forms l w) (down cpp row read (ltb n MAX-NESTING-DEPTH) v d (suc n) (suc a) h) (down-forms (ltb n MAX-NESTING-DEPTH) v d (suc n) (suc a) h)
-          _ (λ b a₁ h₁ m f _. before-forms l w k a b (suc m) (read l d n false a₁ h₁) (group-formed op w b) f (λ x _. of-nodal l t (node k a b x))
+          _ (λ b a₁ h₁ m f _. before-forms l w k a b (suc m) (read l d n false a₁ h₁) (group-formed op w b) f (λ x _. of-nodal l (nodal-has l h t) (node k a b x))
           (subst (λ (u : Bool). Forms l u (read l d n false a₁ h₁)) (group-no-word op row a) (ok l d n false a₁ h₁)))
           _ (λ e m. tt)
       go-forms angle p t =
           by-case list false (Forms l w) (down cpp row read (ltb n MAX-NESTING-DEPTH) list (suc d) (suc n) (suc a) h) (down-forms (ltb n MAX-NESTING-DEPTH) list (suc d) (suc n) (suc a) h)
-          _ (λ b a₁ h₁ m f s. before-forms l w L-node a b (suc m) (read l d n false a₁ h₁) (t, s) f (λ x _. of-nodal l (p .0) (node L-node a b x)) (ok l d n false a₁ h₁))
-          _ (λ e m. token-forms (p .0) false (sym (ap (λ (k : ℕ). eqb k Identifier) (p .1))) (suc m))
+          _ (λ b a₁ h₁ m f s. before-forms l w L-node a b (suc m) (read l d n false a₁ h₁) (t, s) f (λ x _. of-nodal l (nodal-has l h (p .0)) (node L-node a b x)) (ok l d n false a₁ h₁))
+          _ (λ e m. token-forms (nodal-has l h (p .0)) false (sym (ap (λ (k : ℕ). eqb k Identifier) (p .1))) (suc m))
       go-forms first p t =
           subst (λ (v : Region). Forms v w (go cpp row read l d n first a h)) (sym (p .0))
           (by-case argument false (Forms list w) (read argument d n false a h) (ok argument d n false a h)

@@ -9,10 +9,11 @@ use lib.ListN.{length}
 use lib.Dec.{T}
 use Rattle.rows.specs.Kinds.{NoToken}
 use Rattle.reader.specs.Nodes.{NodeKind, Nodes, count}
-use Rattle.reader.specs.Reading.{Region, top, round, square, argument, list, got, kindAt, MAX-NESTING-DEPTH, reading}
+use Rattle.reader.specs.Reading.{Region, top, round, square, argument, list, kindAt, MAX-NESTING-DEPTH}
 use Rattle.reader.specs.Standing.{deeper, depth}
 use Rattle.reader.specs.Laws.Tokens.{inside, KindsKnown, past-end}
-use Rattle.reader.specs.Laws.Derived.{Opens, parens, brackets, opener-kind, closer-kind, nodal, Closes, by-half, by-one, by-two, Read, end-row, end-group, end-argument, a-token, a-group, a-list, last, more, derived}
+use Rattle.reader.specs.Derivation.{Opens, parens, brackets, nodal, Closes, by-half, by-one, by-two, Derivation, end-row, end-group, end-argument, a-token, a-group, a-list, last, more, RowDerived}
+use Rattle.reader.specs.Laws.Derived.{opener-kind, closer-kind}
 
 -- One at a list, none elsewhere: for the size it is the node of an argument, for the half of a `>>` the list itself, for the fuel one turn more.
 abbrev pub for-list : Region → ℕ
@@ -29,12 +30,12 @@ for-list-small square = omega arith
 for-list-small argument = omega arith
 for-list-small list = omega arith
 
-pub nodal-for-list : (l : Region) → T (nodal l) → for-list l ≡ 0
-nodal-for-list top t = refl
-nodal-for-list round t = refl
-nodal-for-list square t = refl
-nodal-for-list argument t = refl
-nodal-for-list list t = absurd t
+pub nodal-for-list : (l : Region) (h : Bool) → T (nodal l h) → for-list l ≡ 0
+nodal-for-list top h t = refl
+nodal-for-list round h t = refl
+nodal-for-list square h t = refl
+nodal-for-list argument h t = refl
+nodal-for-list list h t = absurd t
 
 pub group-for-list : {k : NodeKind} {v : Region} {o c : ℕ} → Opens k v o c → for-list v ≡ 0
 group-for-list parens = refl
@@ -74,7 +75,7 @@ module _ (row : List ℕ) where
   closes-within {a = a} (by-two e two) s = inside row a (omega arith)
 
   -- A reading ends at its start or after it, a group behind its closer.
-  pub spans : {l : Region} {d n a a′ : ℕ} {h h′ : Bool} {x : Nodes} → Read row l d n a h x a′ h′ → a + closer l ≤ a′
+  pub spans : {inner : ℕ → ℕ} {l : Region} {d n a a′ : ℕ} {h h′ : Bool} {x : Nodes} → Derivation row inner l d n a h x a′ h′ → a + closer l ≤ a′
   spans (end-row e) = omega arith
   spans (end-group op e) = omega (arith, group-closer op)
   spans (end-argument s) = omega arith
@@ -84,12 +85,12 @@ module _ (row : List ℕ) where
   spans (last r c) = omega (arith, spans r, closes-forwards c)
   spans (more r e r₁) = omega (arith, spans r, spans r₁)
 
-  pub forwards : {l : Region} {d n a a′ : ℕ} {h h′ : Bool} {x : Nodes} → Read row l d n a h x a′ h′ → a ≤ a′
+  pub forwards : {inner : ℕ → ℕ} {l : Region} {d n a a′ : ℕ} {h h′ : Bool} {x : Nodes} → Derivation row inner l d n a h x a′ h′ → a ≤ a′
   forwards r = omega (arith, spans r)
 
   -- ---- nesting
 
-  pub nests : {l : Region} {d n a a′ : ℕ} {h h′ : Bool} {x : Nodes} → Read row l d n a h x a′ h′ → n ≤ MAX-NESTING-DEPTH → n + depth x ≤ MAX-NESTING-DEPTH
+  pub nests : {inner : ℕ → ℕ} {l : Region} {d n a a′ : ℕ} {h h′ : Bool} {x : Nodes} → Derivation row inner l d n a h x a′ h′ → n ≤ MAX-NESTING-DEPTH → n + depth x ≤ MAX-NESTING-DEPTH
   unfolding depth deeper
   nests (end-row e) s = omega arith
   nests (end-group op e) s = omega arith
@@ -102,7 +103,7 @@ module _ (row : List ℕ) where
 
   -- ---- size: at most two nodes a token, and one for a list
 
-  pub sized : {l : Region} {d n a a′ : ℕ} {h h′ : Bool} {x : Nodes} → Read row l d n a h x a′ h′ → count x + 2 * a ≤ 2 * a′ + for-list l
+  pub sized : {inner : ℕ → ℕ} {l : Region} {d n a a′ : ℕ} {h h′ : Bool} {x : Nodes} → Derivation row inner l d n a h x a′ h′ → count x + 2 * a ≤ 2 * a′ + for-list l
   unfolding count
   sized (end-row e) = omega arith
   sized (end-group op e) = omega arith
@@ -116,27 +117,28 @@ module _ (row : List ℕ) where
   -- ---- half a `>>`
 
   -- Where no list is open around it, a reading that begins with no half leaves none: a list leaves one only if another is open.
-  no-half : {l : Region} {d n a a′ : ℕ} {h h′ : Bool} {x : Nodes} → Read row l d n a h x a′ h′ → d ≤ for-list l → h ≡ false → h′ ≡ false
-  no-half (end-row e) s q = q
-  no-half (end-group op e) s q = q
-  no-half (end-argument s₁) s q = q
-  no-half (a-token t p r) s q = no-half r s q
-  no-half (a-group {l = l} t lim op e r₁ r) s q = no-half r s (no-half r₁ (omega (arith, nodal-for-list l t)) q)
-  no-half (a-list {l = l} t lim e r₁ r) s q = no-half r s (no-half r₁ (omega (arith, nodal-for-list l t)) q)
-  no-half (last r by-half) s q = refl
-  no-half (last r (by-one e)) s q = refl
-  no-half (last r (by-two e f)) s q = absurd (omega arith)
-  no-half (more r e r₁) s q = no-half r₁ s refl
+  pub no-half : {inner : ℕ → ℕ} {l : Region} {d n a a′ : ℕ} {h h′ : Bool} {x : Nodes} → ((d : ℕ) → inner d ≤ d) → Derivation row inner l d n a h x a′ h′ → d ≤ for-list l → h ≡ false
+      → h′ ≡ false
+  no-half fewer (end-row e) s q = q
+  no-half fewer (end-group op e) s q = q
+  no-half fewer (end-argument s₁) s q = q
+  no-half fewer (a-token t p r) s q = no-half fewer r s q
+  no-half fewer (a-group {l = l} {d = d} {h = h} t lim op e r₁ r) s q = no-half fewer r s (no-half fewer r₁ (omega (arith, fewer d, nodal-for-list l h t)) q)
+  no-half fewer (a-list {l = l} {h = h} t lim e r₁ r) s q = no-half fewer r s (no-half fewer r₁ (omega (arith, nodal-for-list l h t)) q)
+  no-half fewer (last r by-half) s q = refl
+  no-half fewer (last r (by-one e)) s q = refl
+  no-half fewer (last r (by-two e f)) s q = absurd (omega arith)
+  no-half fewer (more r e r₁) s q = no-half fewer r₁ s refl
 
   -- The top level ends at the end of the row.
-  top-ends : {d n a a′ : ℕ} {h h′ : Bool} {x : Nodes} → Read row top d n a h x a′ h′ → kindAt row a′ ≡ NoToken
+  top-ends : {inner : ℕ → ℕ} {d n a a′ : ℕ} {h h′ : Bool} {x : Nodes} → Derivation row inner top d n a h x a′ h′ → kindAt row a′ ≡ NoToken
   top-ends (end-row e) = e
   top-ends (a-token t p r) = top-ends r
   top-ends (a-group t lim op e r₁ r) = top-ends r
   top-ends (a-list t lim e r₁ r) = top-ends r
 
   -- A reading that begins in the row, or at its end, ends so.
-  pub within : {l : Region} {d n a a′ : ℕ} {h h′ : Bool} {x : Nodes} → Read row l d n a h x a′ h′ → a ≤ length row → a′ ≤ length row
+  pub within : {inner : ℕ → ℕ} {l : Region} {d n a a′ : ℕ} {h h′ : Bool} {x : Nodes} → Derivation row inner l d n a h x a′ h′ → a ≤ length row → a′ ≤ length row
   within (end-row e) s = s
   within (end-group {a = a} op e) s = inside row a (λ u. closer-kind op (sym e ∙ u))
   within (end-argument s₁) s = s
@@ -148,19 +150,19 @@ module _ (row : List ℕ) where
 
   -- ---- of the whole row
 
-  module _ (cpp : Bool) {x : Nodes} {a : ℕ} {h : Bool} {m : ℕ} (e : reading cpp row ≡ got x a h m) where
+  module _ {inner : ℕ → ℕ} {x : Nodes} (q : RowDerived row inner x) where
     -- Every token has been read, and no half a `>>` is left: refusal 23 never comes.
-    pub nothing-left : KindsKnown row → (a ≡ length row) × (h ≡ false)
+    pub nothing-left : KindsKnown row → (q .at ≡ length row) × (q .half ≡ false)
     nothing-left ks =
-        let r : Read row top 0 0 0 false x a h = derived row cpp e in
-        (omega (arith, within r (omega arith), past-end row ks a (top-ends r)), no-half r (omega arith) refl)
+        let r = q .derivation in
+        (omega (arith, within r (omega arith), past-end row ks (q .at) (top-ends r)), no-half (q .fewer) r (omega arith) refl)
 
     -- "Groups and lists nest to 64."
     pub nesting : depth x ≤ MAX-NESTING-DEPTH
-    nesting = omega (arith, nests (derived row cpp e) (omega arith))
+    nesting = omega (arith, nests (q .derivation) (omega arith))
 
     -- Two nodes a token.
     pub two-nodes : count x ≤ 2 * length row
     two-nodes =
-        let r : Read row top 0 0 0 false x a h = derived row cpp e in
+        let r = q .derivation in
         omega (arith, sized r, within r (omega arith))

@@ -11,9 +11,9 @@ use lib.Dec.{T}
 use Rattle.rows.specs.Kinds.{RightParen, RightBracket, Comma, Less, Greater, ShiftRight}
 use Rattle.prescan.specs.Matcher.{Role, closes, neither, role, same, Opener, Pair, Matcher, going, pop, meet, matcher, Paired}
 use Rattle.reader.specs.Nodes.{NodeKind, T-node, G-node, B-node, L-node, A-node, Nodes, none, node}
-use Rattle.reader.specs.Reading.{Region, top, round, square, argument, list, got, kindAt, reading}
+use Rattle.reader.specs.Reading.{Region, top, round, square, argument, list, kindAt}
 use Rattle.reader.specs.Laws.Tokens.{KindsKnown, taken}
-use Rattle.reader.specs.Laws.Derived.{Opens, parens, brackets, Closes, by-half, by-one, by-two, Read, end-row, end-group, end-argument, a-token, a-group, a-list, last, more, derived}
+use Rattle.reader.specs.Derivation.{Opens, parens, brackets, Closes, by-half, by-one, by-two, Derivation, end-row, end-group, end-argument, a-token, a-group, a-list, last, more, RowDerived}
 use Rattle.reader.specs.Laws.Bounds.{closes-forwards, closer, group-closer, spans, nothing-left}
 use Rattle.reader.specs.Laws.NodeNumbers.{In, here, beside, below, place}
 use Rattle.reader.specs.Laws.Strays.{delimiter-of, Meets, meets, meets-opener, meets-closer, NoStray, tidy}
@@ -82,7 +82,7 @@ module _ (row : List ℕ) where
   -- ---- where the tokens of a tree lie
 
   -- A node's token is one of those that were read, and not the closer of its level.
-  lies : {l : Region} {d n a a′ : ℕ} {h h′ : Bool} {x : Nodes} {k : NodeKind} {i : ℕ} {b : Nodes} → Read row l d n a h x a′ h′ → In k i b x
+  lies : {inner : ℕ → ℕ} {l : Region} {d n a a′ : ℕ} {h h′ : Bool} {x : Nodes} {k : NodeKind} {i : ℕ} {b : Nodes} → Derivation row inner l d n a h x a′ h′ → In k i b x
       → (a ≤ i) × (i + closer l < a′)
   lies (a-token t p r) here = omega (arith, spans row r)
   lies (a-token t p r) (beside u) = omega (arith, lies r u)
@@ -164,7 +164,7 @@ module _ (row : List ℕ) where
     kept : (p : Pair) → List·Memᴰ p ps → List·Memᴰ p qs
     partners : Partners qs x a′
 
-  matched : {l : Region} {d n a a′ : ℕ} {h h′ : Bool} {x : Nodes} → Read row l d n a h x a′ h′ → NoStray row x → (stack : List Opener) (ps : List Pair)
+  matched : {inner : ℕ → ℕ} {l : Region} {d n a a′ : ℕ} {h h′ : Bool} {x : Nodes} → Derivation row inner l d n a h x a′ h′ → NoStray row x → (stack : List Opener) (ps : List Pair)
       → Matched l a a′ x stack ps
   unfolding role
   matched (end-row {a = a} e) z stack ps = record { e = a; qs = ps; ends = refl; goes = refl; kept = λ p m. m; partners = no-partners }
@@ -247,17 +247,16 @@ module _ (row : List ℕ) where
   unfolding run matcher
   run-end a h s = ap (λ (ks : List ℕ). matcher a ks s) (drop-of-length-le row h)
 
-  module _ (known : KindsKnown row) (pairs : List Pair) (paired : Paired row pairs) (cpp : Bool) {x : Nodes} {a : ℕ} {h : Bool} {m : ℕ}
-      (e : reading cpp row ≡ got x a h m) where
-    same-pairs : (q : Matched top 0 a x [] []) → pairs ≡ q .qs
+  module _ (known : KindsKnown row) (pairs : List Pair) (paired : Paired row pairs) {inner : ℕ → ℕ} {x : Nodes} (d : RowDerived row inner x) where
+    same-pairs : (q : Matched top 0 (d .at) x [] []) → pairs ≡ q .qs
     unfolding run
     same-pairs q =
-        let end : length row ≤ q .e = omega (arith, q .ends, nothing-left row cpp e known .0) in
+        let end : length row ≤ q .e = omega (arith, q .ends, nothing-left row d known .0) in
         let u : run 0 (going [] []) ≡ going [] (q .qs) = q .goes ∙ run-end (q .e) end (going [] (q .qs)) in
         cc
 
     -- Every group has its opener's partner.
     pub partnered : (k : NodeKind) (i : ℕ) (b : Nodes) → T (bracket k) → (u : In k i b x) → Partner pairs x u
     partnered k i b t u =
-        let q = matched (derived row cpp e) (tidy row known pairs paired cpp e) [] [] in
+        let q = matched (d .derivation) (tidy row known pairs paired d) [] [] in
         rw (same-pairs q) (q .partners k i b t u .0)

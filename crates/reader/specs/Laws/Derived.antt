@@ -1,6 +1,6 @@
--- What an accepted reading read, as a derivation: every theorem on trees is an induction over it. `derived` gives it.
+-- What an accepted reading read, as a derivation: `derived` gives it.
 -- Assumes nothing.
-use Prim.Native.Nat.{ℕ, zero, suc, _+_, _*_, _≤_, _<_}
+use Prim.Native.Nat.{ℕ, zero, suc, _+_, _*_}
 use mathlib.Core.Path.{_≡_, refl, subst}
 use mathlib.Core.Logic.{_≢_, inl, inr}
 use mathlib.Core.Bool.{Bool, true, false, not, _&&_, _||_}
@@ -12,19 +12,13 @@ use mir.Facts.{and-yes, or-yes}
 use Rattle.rows.specs.Kinds.{LeftParen, RightParen, LeftBracket, RightBracket, Comma, Less, Greater, ShiftRight, NoToken}
 use Rattle.rows.specs.Laws.Tests.{by-if}
 use Rattle.rows.specs.declared.answer.TypeNameError.the-variants.{NestingLimitExceeded}
-use Rattle.reader.specs.Nodes.{NodeKind, T-node, G-node, B-node, L-node, A-node, Nodes, none, node}
+use Rattle.reader.specs.Nodes.{NodeKind, T-node, L-node, A-node, Nodes, none, node}
+use Rattle.reader.specs.Derivation.{Opens, parens, brackets, Plain, nodal, by-half, by-one, by-two, Stops, at-half, at-one, at-two, at-comma, Derivation, end-row, end-group, end-argument, a-token, a-group, a-list, last, more, RowDerived}
 use Rattle.reader.specs.Reading.{Region, top, round, square, argument, list, Fault, refusal, Next, ends, stops, token, group, angle, first, Got, got, bad, case, before, is-angle-close, starts, next, kindAt, MAX-NESTING-DEPTH, Reader, down, argued, go, turn, readF, read, reading}
 
 -- What a test that fails tells.
 pub neqb : (m n : ℕ) → T (not (eqb m n)) → m ≢ n
 neqb m n t e = T-not (eqb m n) t (subst (λ (k : ℕ). T (eqb m k)) e (eqb-refl m))
-
--- ---- the derivation
-
--- A group of this kind holds this level, between tokens of these kinds.
-pub data Opens : NodeKind → Region → (opener closer : ℕ) → Type 0 where
-  parens : Opens G-node round LeftParen RightParen
-  brackets : Opens B-node square LeftBracket RightBracket
 
 pub opener-kind : {k : NodeKind} {v : Region} {o c : ℕ} → Opens k v o c → o ≢ NoToken
 opener-kind parens = omega arith
@@ -34,54 +28,17 @@ pub closer-kind : {k : NodeKind} {v : Region} {o c : ℕ} → Opens k v o c → 
 closer-kind parens = omega arith
 closer-kind brackets = omega arith
 
--- A token of this kind can be a T.
-pub record Plain (k : ℕ) : Type 0 where
-  pub inside : k ≢ NoToken
-  pub no-paren : k ≢ LeftParen
-  pub no-bracket : k ≢ LeftBracket
-
--- Nodes are read at this level; at `list`, arguments.
-abbrev pub nodal : Region → Bool
-nodal top = true
-nodal round = true
-nodal square = true
-nodal argument = true
-nodal list = false
+-- This reading counts every list that is open, those around a group too.
+abbrev pub all-lists : ℕ → ℕ
+all-lists d = d
 
 module _ (row : List ℕ) where
-  -- A list is closed at a token: by the half of a `>>`, by `>`, or by a `>>`, of which half is left.
-  pub data Closes (lists at : ℕ) : (half : Bool) (at′ : ℕ) (half′ : Bool) → Type 0 where
-    by-half : Closes lists at true at false
-    by-one : kindAt row at ≡ Greater → Closes lists at false (suc at) false
-    by-two : kindAt row at ≡ ShiftRight → 2 ≤ lists → Closes lists at false (suc at) true
-
-  -- An argument ends at a token.
-  pub data Stops (lists at : ℕ) : (half : Bool) → Type 0 where
-    at-half : Stops lists at true
-    at-one : {half : Bool} → kindAt row at ≡ Greater → Stops lists at half
-    at-two : {half : Bool} → kindAt row at ≡ ShiftRight → 2 ≤ lists → Stops lists at half
-    at-comma : {half : Bool} → kindAt row at ≡ Comma → Stops lists at half
-
-  -- A level is read: its nodes, the token after it, and whether half a `>>` is left.
-  pub data Read : Region → (lists nesting at : ℕ) (half : Bool) → Nodes → (at′ : ℕ) (half′ : Bool) → Type 0 where
-    end-row : {d n a : ℕ} {h : Bool} → kindAt row a ≡ NoToken → Read top d n a h none a h
-    end-group : {v : Region} {k : NodeKind} {o c d n a : ℕ} {h : Bool} → Opens k v o c → kindAt row a ≡ c → Read v d n a h none (suc a) h
-    end-argument : {d n a : ℕ} {h : Bool} → Stops d a h → Read argument d n a h none a h
-    a-token : {l : Region} {d n a a′ : ℕ} {h h′ : Bool} {x : Nodes} → T (nodal l) → Plain (kindAt row a)
-        → Read l d n (suc a) h x a′ h′ → Read l d n a h (node T-node a none x) a′ h′
-    a-group : {l v : Region} {k : NodeKind} {o c d n a a₁ a₂ : ℕ} {h h₁ h₂ : Bool} {b x : Nodes}
-        → T (nodal l) → n < MAX-NESTING-DEPTH → Opens k v o c → kindAt row a ≡ o
-        → Read v d (suc n) (suc a) h b a₁ h₁ → Read l d n a₁ h₁ x a₂ h₂ → Read l d n a h (node k a b x) a₂ h₂
-    a-list : {l : Region} {d n a a₁ a₂ : ℕ} {h h₁ h₂ : Bool} {b x : Nodes} → T (nodal l) → n < MAX-NESTING-DEPTH → kindAt row a ≡ Less
-        → Read list (suc d) (suc n) (suc a) h b a₁ h₁ → Read l d n a₁ h₁ x a₂ h₂ → Read l d n a h (node L-node a b x) a₂ h₂
-    last : {k : NodeKind} {d n a a₁ a₂ i : ℕ} {h₁ h₂ : Bool} {y z : Nodes}
-        → Read argument d n a false (node k i y z) a₁ h₁ → Closes d a₁ h₁ a₂ h₂ → Read list d n a false (node A-node a (node k i y z) none) a₂ h₂
-    more : {k : NodeKind} {d n a a₁ a₂ i : ℕ} {h₂ : Bool} {y z x : Nodes}
-        → Read argument d n a false (node k i y z) a₁ false → kindAt row a₁ ≡ Comma → Read list d n (suc a₁) false x a₂ h₂
-        → Read list d n a false (node A-node a (node k i y z) x) a₂ h₂
+  -- What this reading reads.
+  abbrev pub Read : Region → (lists nesting at : ℕ) (half : Bool) → Nodes → (at′ : ℕ) (half′ : Bool) → Type 0
+  Read = Derivation row all-lists
 
   -- An argument's reading stops where an argument ends.
-  stopped : {d n a a′ : ℕ} {h h′ : Bool} {x : Nodes} → Read argument d n a h x a′ h′ → Stops d a′ h′
+  stopped : {d n a a′ : ℕ} {h h′ : Bool} {x : Nodes} → Read argument d n a h x a′ h′ → Stops row d a′ h′
   stopped (end-argument s) = s
   stopped (a-token t p r) = stopped r
   stopped (a-group t lim op e r₁ r) = stopped r
@@ -102,9 +59,9 @@ module _ (row : List ℕ) where
   abbrev pub Allowed : Region → (d n a : ℕ) (h : Bool) → Next → Type 0
   Allowed l d n a h (ends a′) = Read l d n a h none a′ h
   Allowed l d n a h (stops e) = Unit {0}
-  Allowed l d n a h (token w) = T (nodal l) × Plain (kindAt row a)
-  Allowed l d n a h (group k v) = T (nodal l) × (o : ℕ) × (c : ℕ) × Opens k v o c × (kindAt row a ≡ o)
-  Allowed l d n a h angle = T (nodal l) × (kindAt row a ≡ Less)
+  Allowed l d n a h (token w) = T (nodal l h) × Plain (kindAt row a)
+  Allowed l d n a h (group k v) = T (nodal l h) × (o : ℕ) × (c : ℕ) × Opens k v o c × (kindAt row a ≡ o)
+  Allowed l d n a h angle = T (nodal l h) × (kindAt row a ≡ Less)
   Allowed l d n a h first = (l ≡ list) × (h ≡ false)
 
   -- A property of what comes of a sound reading, by its two cases.
@@ -123,16 +80,16 @@ module _ (row : List ℕ) where
   before-sound k i b m (bad e m′) s f = tt
 
   module _ (cpp : Bool) where
-    starts-allowed : (l : Region) → T (nodal l) → (d n a : ℕ) (h after-identifier : Bool) → kindAt row a ≢ NoToken → Allowed l d n a h (starts cpp after-identifier (kindAt row a))
+    starts-allowed : (l : Region) (d n a : ℕ) (h after-identifier : Bool) → T (nodal l h) → kindAt row a ≢ NoToken → Allowed l d n a h (starts cpp after-identifier (kindAt row a))
     unfolding starts
-    starts-allowed l t d n a h after-identifier q =
+    starts-allowed l d n a h after-identifier t q =
         by-if (Allowed l d n a h) (eqb (kindAt row a) LeftParen) (λ u. (t, LeftParen, RightParen, parens, eqb→eq _ _ u)) λ no-paren.
         by-if (Allowed l d n a h) (eqb (kindAt row a) LeftBracket) (λ u. (t, LeftBracket, RightBracket, brackets, eqb→eq _ _ u)) λ no-bracket.
         by-if (Allowed l d n a h) (eqb (kindAt row a) Less && cpp && after-identifier)
         (λ u. (t, eqb→eq _ _ (and-yes (eqb (kindAt row a) Less) cpp (and-yes (eqb (kindAt row a) Less && cpp) after-identifier u .0) .0))) λ _.
         (t, record { inside = q; no-paren = neqb _ _ no-paren; no-bracket = neqb _ _ no-bracket })
 
-    argument-stops : (d a : ℕ) (h : Bool) → T (is-angle-close d (kindAt row a) h || eqb (kindAt row a) Comma) → Stops d a h
+    argument-stops : (d a : ℕ) (h : Bool) → T (is-angle-close d (kindAt row a) h || eqb (kindAt row a) Comma) → Stops row d a h
     unfolding is-angle-close
     argument-stops d a true t = at-half
     argument-stops d a false t =
@@ -145,6 +102,11 @@ module _ (row : List ℕ) where
           | inr u ↦ at-comma (eqb→eq _ _ u)
         ]
 
+    argument-on : (d a : ℕ) (h : Bool) → T (not (is-angle-close d (kindAt row a) h || eqb (kindAt row a) Comma)) → T (not h)
+    unfolding is-angle-close
+    argument-on d a true t = absurd t
+    argument-on d a false t = tt
+
     open-half : (d a : ℕ) (h : Bool) → T (not (is-angle-close d (kindAt row a) h)) → h ≡ false
     unfolding is-angle-close
     open-half d a true t = absurd t
@@ -155,21 +117,21 @@ module _ (row : List ℕ) where
     next-allowed top d n after-identifier a h =
         by-if (Allowed top d n a h) (eqb (kindAt row a) NoToken) (λ t. end-row (eqb→eq _ _ t)) λ q.
         by-if (Allowed top d n a h) (eqb (kindAt row a) RightParen || eqb (kindAt row a) RightBracket) (λ t. tt) λ _.
-        starts-allowed top tt d n a h after-identifier (neqb _ _ q)
+        starts-allowed top d n a h after-identifier tt (neqb _ _ q)
     next-allowed round d n after-identifier a h =
         by-if (Allowed round d n a h) (eqb (kindAt row a) NoToken) (λ t. tt) λ q.
         by-if (Allowed round d n a h) (eqb (kindAt row a) RightParen) (λ t. end-group parens (eqb→eq _ _ t)) λ _.
         by-if (Allowed round d n a h) (eqb (kindAt row a) RightBracket) (λ t. tt) λ _.
-        starts-allowed round tt d n a h after-identifier (neqb _ _ q)
+        starts-allowed round d n a h after-identifier tt (neqb _ _ q)
     next-allowed square d n after-identifier a h =
         by-if (Allowed square d n a h) (eqb (kindAt row a) NoToken) (λ t. tt) λ q.
         by-if (Allowed square d n a h) (eqb (kindAt row a) RightBracket) (λ t. end-group brackets (eqb→eq _ _ t)) λ _.
         by-if (Allowed square d n a h) (eqb (kindAt row a) RightParen) (λ t. tt) λ _.
-        starts-allowed square tt d n a h after-identifier (neqb _ _ q)
+        starts-allowed square d n a h after-identifier tt (neqb _ _ q)
     next-allowed argument d n after-identifier a h =
-        by-if (Allowed argument d n a h) (is-angle-close d (kindAt row a) h || eqb (kindAt row a) Comma) (λ t. end-argument (argument-stops d a h t)) λ _.
+        by-if (Allowed argument d n a h) (is-angle-close d (kindAt row a) h || eqb (kindAt row a) Comma) (λ t. end-argument (argument-stops d a h t)) λ z.
         by-if (Allowed argument d n a h) (eqb (kindAt row a) NoToken) (λ t. tt) λ q.
-        starts-allowed argument tt d n a h after-identifier (neqb _ _ q)
+        starts-allowed argument d n a h after-identifier (argument-on d a h z) (neqb _ _ q)
     next-allowed list d n after-identifier a h =
         by-if (Allowed list d n a h) (is-angle-close d (kindAt row a) h) (λ t. tt) λ q. (refl, open-half d a h q)
 
@@ -187,7 +149,7 @@ module _ (row : List ℕ) where
       by-down P true l d n a h f p f′ q = by-case P (read l d n false a h) (ok l d n false a h) f (λ x a′ h′ m r. p x a′ h′ m tt r) f′ q
       by-down P false l d n a h f p f′ q = q (refusal NestingLimitExceeded) 0
 
-      argued-sound : (l : Region) (d n a : ℕ) (x : Nodes) (comma : Bool) (a₁ : ℕ) (h₁ : Bool) (m : ℕ) → Read argument d n a false x a₁ h₁ → Stops d a₁ h₁
+      argued-sound : (l : Region) (d n a : ℕ) (x : Nodes) (comma : Bool) (a₁ : ℕ) (h₁ : Bool) (m : ℕ) → Read argument d n a false x a₁ h₁ → Stops row d a₁ h₁
           → (T comma → kindAt row a₁ ≡ Comma) → (T (not comma) → kindAt row a₁ ≢ Comma) → Sound list d n a false (argued cpp row read l d n a x comma a₁ h₁ m)
       unfolding argued
       argued-sound l d n a none comma a₁ h₁ m r s f g = tt
@@ -241,3 +203,6 @@ module _ (row : List ℕ) where
     pub derived : {x : Nodes} {a : ℕ} {h : Bool} {m : ℕ} → reading cpp row ≡ got x a h m → Read top 0 0 0 false x a h
     unfolding reading
     derived e = read-derived top 0 0 false 0 false e
+
+    abbrev pub row-derived : {x : Nodes} {a : ℕ} {h : Bool} {m : ℕ} → reading cpp row ≡ got x a h m → RowDerived row all-lists x
+    row-derived {x} {a} {h} e = record { fewer = λ d. omega arith; at = a; half = h; derivation = derived e }

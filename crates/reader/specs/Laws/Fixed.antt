@@ -11,7 +11,8 @@ use Rattle.rows.specs.Kinds.{Comma}
 use Rattle.reader.specs.Nodes.{T-node, L-node, A-node, Nodes, none, node}
 use Rattle.reader.specs.Reading.{Region, argument, list, Fault, Next, ends, stops, token, group, angle, first, Got, got, bad, case, before, kindAt, MAX-NESTING-DEPTH, next, Reader, down, argued, go, turn, readF, read}
 use Rattle.reader.specs.Laws.Tokens.{inside}
-use Rattle.reader.specs.Laws.Derived.{nodal, Read, Sound, Allowed, next-allowed, down-sound, readF-sound}
+use Rattle.reader.specs.Derivation.{nodal}
+use Rattle.reader.specs.Laws.Derived.{Read, Sound, Allowed, next-allowed, down-sound, readF-sound}
 use Rattle.reader.specs.Laws.Bounds.{for-list, for-list-small, nodal-for-list, group-for-list, opener-inside, forwards, within}
 
 module _ (cpp : Bool) (row : List ℕ) where
@@ -45,7 +46,7 @@ module _ (cpp : Bool) (row : List ℕ) where
 
     module _ (l : Region) (d n a : ℕ) (h : Bool) (en : Enough (suc fuel) l a) where
       -- The rest of the level, from a later token.
-      on-same : T (nodal l) → (w : Bool) (a₁ : ℕ) (h₁ : Bool) → a < a₁ → a₁ ≤ length row → r l d n w a₁ h₁ ≡ s l d n w a₁ h₁
+      on-same : T (nodal l h) → (w : Bool) (a₁ : ℕ) (h₁ : Bool) → a < a₁ → a₁ ≤ length row → r l d n w a₁ h₁ ≡ s l d n w a₁ h₁
       on-same t w a₁ h₁ p q = same l d n w a₁ h₁ (omega arith)
 
       go-same : (nx : Next) → Allowed row l d n a h nx → go cpp row r l d n nx a h ≡ go cpp row s l d n nx a h
@@ -55,13 +56,13 @@ module _ (cpp : Bool) (row : List ℕ) where
       go-same (token w) z = ap (before T-node a none 1) (on-same (z .0) w (suc a) h (omega arith) (inside row a (z .1 .inside)))
       go-same (group k v) z =
           let i : a < length row = opener-inside row (z .3) a (z .4) in
-          case-same _ _ (down-same (ltb n MAX-NESTING-DEPTH) v d (suc n) (suc a) h (omega (arith, group-for-list (z .3), nodal-for-list l (z .0))))
+          case-same _ _ (down-same (ltb n MAX-NESTING-DEPTH) v d (suc n) (suc a) h (omega (arith, group-for-list (z .3), nodal-for-list l h (z .0))))
           (down-sound row cpp r ok (ltb n MAX-NESTING-DEPTH) v d (suc n) (suc a) h)
           _ _ (λ b a₁ h₁ m rd. ap (before k a b (suc m)) (on-same (z .0) false a₁ h₁ (forwards row rd) (within row rd i)))
           _ _ (λ e m. refl)
       go-same angle z =
           let i : a < length row = inside row a (omega arith) in
-          case-same _ _ (down-same (ltb n MAX-NESTING-DEPTH) list (suc d) (suc n) (suc a) h (omega (arith, nodal-for-list l (z .0))))
+          case-same _ _ (down-same (ltb n MAX-NESTING-DEPTH) list (suc d) (suc n) (suc a) h (omega (arith, nodal-for-list l h (z .0))))
           (down-sound row cpp r ok (ltb n MAX-NESTING-DEPTH) list (suc d) (suc n) (suc a) h)
           _ _ (λ b a₁ h₁ m rd. ap (before L-node a b (suc m)) (on-same (z .0) false a₁ h₁ (forwards row rd) (within row rd i)))
           _ _ (λ e m. ap (before T-node a none (suc m)) (on-same (z .0) false (suc a) h (omega arith) i))

@@ -3,15 +3,14 @@
 use Prim.Native.Nat.{ℕ, _<_}
 use mathlib.Core.Path.{_≡_, sym, ap, _∙_}
 use mathlib.Core.Logic.{_↔_, _⊎_, inl, inr}
-use mathlib.Core.Bool.{Bool}
 use mathlib.Core.List.{List, List·Memᴰ}
 use native.Mathlib.Omega.{arith}
 use lib.Dec.{T}
 use Rattle.prescan.specs.Matcher.{Pair, Paired}
 use Rattle.reader.specs.Nodes.{NodeKind, T-node, G-node, B-node, L-node, A-node, number, Nodes, count, records}
-use Rattle.reader.specs.Reading.{got, reading}
+use Rattle.reader.specs.Derivation.{RowDerived}
 use Rattle.reader.specs.Standing.{Below, IsGroup}
-use Rattle.reader.specs.Nodes.{kind-of, token-of}
+use Rattle.reader.specs.Nodes.{token-of}
 use Rattle.reader.specs.Laws.Tokens.{KindsKnown}
 use Rattle.reader.specs.Laws.NodeNumbers.{in-count, says, numbered, in-extent}
 use Rattle.reader.specs.Laws.Brackets.{bracket, Partner, partnered}
@@ -28,15 +27,14 @@ is-bracket L-node (inr e) = absurd (omega arith)
 is-bracket A-node (inl e) = absurd (omega arith)
 is-bracket A-node (inr e) = absurd (omega arith)
 
-module _ (row : List ℕ) (known : KindsKnown row) (pairs : List Pair) (paired : Paired row pairs) (cpp : Bool) {x : Nodes} {a : ℕ} {h : Bool} {m : ℕ}
-    (e : reading cpp row ≡ got x a h m) where
+module _ (row : List ℕ) (known : KindsKnown row) (pairs : List Pair) (paired : Paired row pairs) {inner : ℕ → ℕ} {x : Nodes} (d : RowDerived row inner x) where
   partner-at : (n : ℕ) (lt : n < count x) → IsGroup (records x) n → Partner pairs x (numbered x n lt .stands)
   partner-at n lt g =
       let v = numbered x n lt in
       let s = says v in
       let k : (number (v .the-kind) ≡ number G-node) ⊎ (number (v .the-kind) ≡ number B-node) =
       elim g [ inl u ↦ inl (sym (s .the-kind) ∙ u) | inr u ↦ inr (sym (s .the-kind) ∙ u) ] in
-      partnered row known pairs paired cpp e (v .the-kind) (v .the-token) (v .beneath) (is-bracket (v .the-kind) k) (v .stands)
+      partnered row known pairs paired d (v .the-kind) (v .the-token) (v .beneath) (is-bracket (v .the-kind) k) (v .stands)
 
   pub partner : (n : ℕ) → n < count x → IsGroup (records x) n → (p : Pair) × List·Memᴰ p pairs × (p .opener ≡ token-of (records x) n)
   partner n lt g =

@@ -12,10 +12,11 @@ use lib.Dec.{eqb}
 use Rattle.rows.specs.Notation.{if_then_else_}
 use Rattle.rows.specs.Kinds.{LeftParen, LeftBracket, Comma, Less, Greater, ShiftRight, NoToken}
 use Rattle.reader.specs.Nodes.{NodeKind, T-node, G-node, B-node, L-node, A-node, number, Nodes}
-use Rattle.reader.specs.Reading.{Region, got, kindAt, reading}
+use Rattle.reader.specs.Reading.{Region, kindAt}
 use Rattle.reader.specs.Standing.{tokens-of, tokens-of-kind}
 use Rattle.reader.specs.Laws.Tokens.{KindsKnown, taken}
-use Rattle.reader.specs.Laws.Derived.{Opens, parens, brackets, opener-kind, closer-kind, Closes, by-half, by-one, by-two, Read, end-row, end-group, end-argument, a-token, a-group, a-list, last, more, derived}
+use Rattle.reader.specs.Derivation.{Opens, parens, brackets, Closes, by-half, by-one, by-two, Derivation, end-row, end-group, end-argument, a-token, a-group, a-list, last, more, RowDerived}
+use Rattle.reader.specs.Laws.Derived.{opener-kind, closer-kind}
 use Rattle.reader.specs.Laws.Bounds.{nothing-left}
 
 -- A list with i before it, if the test says so.
@@ -73,7 +74,7 @@ module _ (row : List ℕ) {g : NodeKind} {v₀ : Region} {o₀ c₀ : ℕ} (grou
   at-shut {a = a} (by-two e two) = at-other a ShiftRight e (omega arith) (omega arith)
 
   -- The openers from where a level begins are those of its groups, and those from where it ends.
-  placed : {l : Region} {d n a a′ : ℕ} {h h′ : Bool} {x : Nodes} → Read row l d n a h x a′ h′ → from a ≡ tokens-of g x ++ from a′
+  placed : {inner : ℕ → ℕ} {l : Region} {d n a a′ : ℕ} {h h′ : Bool} {x : Nodes} → Derivation row inner l d n a h x a′ h′ → from a ≡ tokens-of g x ++ from a′
   unfolding tokens-of Other
   placed (end-row e) = refl
   placed (end-group {c = c} {a = a} op e) = at-other a c e (closer-kind op) (other-closer op)
@@ -85,12 +86,12 @@ module _ (row : List ℕ) {g : NodeKind} {v₀ : Region} {o₀ c₀ : ℕ} (grou
   placed (last r c) = rw (apart group .2) (simp (append-nil, placed r, at-shut c))
   placed (more {a₁ = a} r e r₁) = rw (apart group .2) (simp (append-assoc, placed r, at-other a Comma e (omega arith) (omega arith), placed r₁))
 
-module _ (row : List ℕ) (known : KindsKnown row) (cpp : Bool) {x : Nodes} {a : ℕ} {h : Bool} {m : ℕ} (e : reading cpp row ≡ got x a h m) where
+module _ (row : List ℕ) (known : KindsKnown row) {inner : ℕ → ℕ} {x : Nodes} (d : RowDerived row inner x) where
   one-each : {g : NodeKind} {v : Region} {o c : ℕ} → Opens g v o c → tokens-of g x ≡ tokens-of-kind o 0 row
   unfolding from tokens-of-kind
   one-each group =
-      let end : length row ≤ a = omega (arith, nothing-left row cpp e known .0) in
-      sym (rw (drop-of-length-le row end, append-nil) at (placed row group (derived row cpp e)))
+      let end : length row ≤ d .at = omega (arith, nothing-left row d known .0) in
+      sym (rw (drop-of-length-le row end, append-nil) at (placed row group (d .derivation)))
 
   pub one-G-each : tokens-of G-node x ≡ tokens-of-kind LeftParen 0 row
   one-G-each = one-each parens

@@ -13,7 +13,8 @@ use Rattle.rows.specs.declared.answer.TypeNameError.the-variants.{NestingLimitE
 use Rattle.reader.specs.Nodes.{NodeKind, T-node, L-node, Nodes, none}
 use Rattle.reader.specs.Reading.{Region, top, round, square, argument, list, Fault, refusal, Next, ends, stops, token, group, angle, first, Got, got, bad, case, before, kindAt, MAX-NESTING-DEPTH, is-angle-close, starts, next, Reader, down, go, turn, readF, read, reading}
 use Rattle.reader.specs.Laws.Tokens.{inside}
-use Rattle.reader.specs.Laws.Derived.{Opens, parens, brackets, nodal, Read, Sound, Allowed, next-allowed, down-sound, readF-sound}
+use Rattle.reader.specs.Derivation.{Opens, parens, brackets, nodal}
+use Rattle.reader.specs.Laws.Derived.{Read, Sound, Allowed, next-allowed, down-sound, readF-sound}
 use Rattle.reader.specs.Laws.Bounds.{nodal-for-list, group-for-list, opener-inside, forwards, within}
 use Rattle.reader.specs.Laws.Fixed.{Enough}
 
@@ -96,7 +97,7 @@ module _ (cpp : Bool) (row : List ℕ) where
     named-case P (bad e m) s nm f p f′ q = q e m nm
 
     module _ (l : Region) (pl : T (plainly l)) (d n a : ℕ) (h : Bool) (en : Enough cpp row (suc fuel) l a) where
-      rest : (t : T (nodal l)) (w : Bool) (a₁ : ℕ) (h₁ : Bool) → a < a₁ → a₁ ≤ length row → Named l (r l d n w a₁ h₁)
+      rest : (t : T (nodal l h)) (w : Bool) (a₁ : ℕ) (h₁ : Bool) → a < a₁ → a₁ ≤ length row → Named l (r l d n w a₁ h₁)
       rest t w a₁ h₁ p q = ih l d n w a₁ h₁ (omega arith)
 
       go-named : (nx : Next) → Allowed row l d n a h nx → Said l nx → Named l (go cpp row r l d n nx a h)
@@ -108,14 +109,14 @@ module _ (cpp : Bool) (row : List ℕ) where
           let i : a < length row = opener-inside row (z .3) a (z .4) in
           named-case (Named l) (down cpp row r (ltb n MAX-NESTING-DEPTH) v d (suc n) (suc a) h)
           (down-sound row cpp r ok (ltb n MAX-NESTING-DEPTH) v d (suc n) (suc a) h)
-          (down-named (ltb n MAX-NESTING-DEPTH) v d (suc n) (suc a) h (omega (arith, group-for-list (z .3), nodal-for-list l (z .0))))
+          (down-named (ltb n MAX-NESTING-DEPTH) v d (suc n) (suc a) h (omega (arith, group-for-list (z .3), nodal-for-list l h (z .0))))
           _ (λ b a₁ h₁ m rd. named-before l k a b (suc m) (r l d n false a₁ h₁) (rest (z .0) false a₁ h₁ (forwards row rd) (within row rd i)))
           _ (λ e m kn _. kn (opens-plainly (z .3)))
       go-named angle z s =
           let i : a < length row = inside row a (omega arith) in
           named-case (Named l) (down cpp row r (ltb n MAX-NESTING-DEPTH) list (suc d) (suc n) (suc a) h)
           (down-sound row cpp r ok (ltb n MAX-NESTING-DEPTH) list (suc d) (suc n) (suc a) h)
-          (down-named (ltb n MAX-NESTING-DEPTH) list (suc d) (suc n) (suc a) h (omega (arith, nodal-for-list l (z .0))))
+          (down-named (ltb n MAX-NESTING-DEPTH) list (suc d) (suc n) (suc a) h (omega (arith, nodal-for-list l h (z .0))))
           _ (λ b a₁ h₁ m rd. named-before l L-node a b (suc m) (r l d n false a₁ h₁) (rest (z .0) false a₁ h₁ (forwards row rd) (within row rd i)))
           _ (λ e m kn. named-before l T-node a none (suc m) (r l d n false (suc a) h) (rest (z .0) false (suc a) h (omega arith) i))
       go-named first z s = absurd (s pl)

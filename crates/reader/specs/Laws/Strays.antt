@@ -4,7 +4,7 @@
 use Prim.Native.Nat.{ℕ, suc, _+_, _≤_}
 use mathlib.Core.Path.{_≡_, refl, sym, ap, _∙_}
 use mathlib.Core.Logic.{_≢_}
-use mathlib.Core.Bool.{Bool, false}
+use mathlib.Core.Bool.{Bool}
 use mathlib.Core.List.{List, [], _∷_}
 use native.Mathlib.Omega.{arith}
 use lib.ListN.{length, drop, drop-of-length-le}
@@ -15,9 +15,10 @@ use Rattle.rows.specs.declared.answer.Delimiter.{Delimiter}
 use Rattle.rows.specs.declared.answer.Delimiter.the-variants.{Parenthesis, Bracket}
 use Rattle.prescan.specs.Matcher.{Role, opens, closes, neither, role, same, Opener, Pair, Matcher, stopped, going, pop, meet, matcher, Paired}
 use Rattle.reader.specs.Nodes.{NodeKind, T-node, G-node, B-node, L-node, A-node, Nodes, none, node}
-use Rattle.reader.specs.Reading.{Region, top, got, kindAt, reading}
+use Rattle.reader.specs.Reading.{Region, kindAt}
 use Rattle.reader.specs.Laws.Tokens.{KindsKnown, taken}
-use Rattle.reader.specs.Laws.Derived.{Opens, parens, brackets, opener-kind, closer-kind, Plain, Closes, by-half, by-one, by-two, Read, end-row, end-group, end-argument, a-token, a-group, a-list, last, more, derived}
+use Rattle.reader.specs.Derivation.{Opens, parens, brackets, Plain, Closes, by-half, by-one, by-two, Derivation, end-row, end-group, end-argument, a-token, a-group, a-list, last, more, RowDerived}
+use Rattle.reader.specs.Laws.Derived.{opener-kind, closer-kind}
 use Rattle.reader.specs.Laws.Bounds.{closer, group-closer, nothing-left}
 use Rattle.reader.specs.Laws.Sums.{sum}
 use Rattle.reader.specs.Laws.NodeNumbers.{In, here, beside, below}
@@ -154,7 +155,7 @@ module _ (row : List ℕ) where
   shut-count {a = a} (by-two e two) = omega (arith, counted (meets a ShiftRight e (omega arith) refl))
 
   -- The closers passed are the openers passed, the strays and the closer of the level.
-  stray-count : {l : Region} {d n a a′ : ℕ} {h h′ : Bool} {x : Nodes} → Read row l d n a h x a′ h′
+  stray-count : {inner : ℕ → ℕ} {l : Region} {d n a a′ : ℕ} {h h′ : Bool} {x : Nodes} → Derivation row inner l d n a h x a′ h′
       → closers (drop a row) + openers (drop a′ row) ≡ strays x + closer l + (openers (drop a row) + closers (drop a′ row))
   unfolding stray strays role
   stray-count (end-row e) = omega arith
@@ -174,7 +175,7 @@ module _ (row : List ℕ) where
   no-stray (beside u) z = no-stray u (omega arith)
   no-stray (below u) z = no-stray u (omega arith)
 
-  plain : {l : Region} {d n a a′ : ℕ} {h h′ : Bool} {x b : Nodes} {i : ℕ} → Read row l d n a h x a′ h′ → In T-node i b x → Plain (kindAt row i)
+  plain : {inner : ℕ → ℕ} {l : Region} {d n a a′ : ℕ} {h h′ : Bool} {x b : Nodes} {i : ℕ} → Derivation row inner l d n a h x a′ h′ → In T-node i b x → Plain (kindAt row i)
   plain (a-token t p r) here = p
   plain (a-token t p r) (beside u) = plain r u
   plain (a-group t lim op e r₁ r) here = elim op [ ]
@@ -190,18 +191,14 @@ module _ (row : List ℕ) where
   abbrev pub NoStray : Nodes → Type 0
   NoStray x = (i : ℕ) (b : Nodes) → In T-node i b x → role (kindAt row i) ≡ neither
 
-  module _ (known : KindsKnown row) (pairs : List Pair) (paired : Paired row pairs) (cpp : Bool) {x : Nodes} {a : ℕ} {h : Bool} {m : ℕ}
-      (e : reading cpp row ≡ got x a h m) where
-    r : Read row top 0 0 0 false x a h
-    r = derived row cpp e
-
+  module _ (known : KindsKnown row) (pairs : List Pair) (paired : Paired row pairs) {inner : ℕ → ℕ} {x : Nodes} (d : RowDerived row inner x) where
     none-stray : strays x ≡ 0
     unfolding sum
     none-stray =
-        let end : length row ≤ a = omega (arith, nothing-left row cpp e known .0) in
-        omega (arith, rw (drop-of-length-le row end) at (stray-count r), even 0 row [] [] pairs paired)
+        let end : length row ≤ d .at = omega (arith, nothing-left row d known .0) in
+        omega (arith, rw (drop-of-length-le row end) at (stray-count (d .derivation)), even 0 row [] [] pairs paired)
 
     pub tidy : NoStray x
     tidy i b u =
-        let p : Plain (kindAt row i) = plain r u in
+        let p : Plain (kindAt row i) = plain (d .derivation) u in
         neither-is (role (kindAt row i)) (role-plain (kindAt row i) (p .no-paren) (p .no-bracket)) (no-stray u none-stray)

@@ -13,11 +13,12 @@ use Rattle.rows.specs.Notation.{if_then_else_}
 use Rattle.rows.specs.Kinds.{Identifier, LeftParen, RightParen, LeftBracket, RightBracket, Comma, Less, Greater, ShiftRight, NoToken}
 use Rattle.rows.specs.Laws.Tests.{by-if}
 use Rattle.reader.specs.Nodes.{Nodes}
-use Rattle.reader.specs.Reading.{Region, top, round, square, argument, list, got, kindAt, reading}
+use Rattle.reader.specs.Reading.{Region, top, round, square, argument, list, kindAt}
 use Rattle.reader.specs.Written.{Token, sign, comma-before, written, halved, closing-angles, without-closing-angles}
 use Rattle.reader.specs.Standing.{tokens-of-kind}
 use Rattle.reader.specs.Laws.Tokens.{KindsKnown, inside}
-use Rattle.reader.specs.Laws.Derived.{neqb, parens, brackets, Closes, by-half, by-one, by-two, Read, end-row, end-group, end-argument, a-token, a-group, a-list, last, more, derived}
+use Rattle.reader.specs.Derivation.{parens, brackets, Closes, by-half, by-one, by-two, Derivation, end-row, end-group, end-argument, a-token, a-group, a-list, last, more, RowDerived}
+use Rattle.reader.specs.Laws.Derived.{neqb}
 use Rattle.reader.specs.Laws.Bounds.{nothing-left}
 use Rattle.reader.specs.Laws.Sums.{sum, sum-append}
 
@@ -100,7 +101,7 @@ module _ (row : List Token) (worded : Worded row) where
   in-row : (a : ℕ) → kindAt K a ≢ NoToken → a < length row
   in-row a q = subst (λ (n : ℕ). a < n) (length-map row (λ (t : Token). t .kind)) (inside K a q)
 
-  take-token : (a : ℕ) → kindAt K a ≢ NoToken → drop a row ≡ getD row a (sign NoToken) ∷ drop (suc a) row
+  pub take-token : (a : ℕ) → kindAt K a ≢ NoToken → drop a row ≡ getD row a (sign NoToken) ∷ drop (suc a) row
   take-token a q = drop-cons row a (sign NoToken) (in-row a q)
 
   -- A token that is no identifier is the token of its kind.
@@ -110,12 +111,12 @@ module _ (row : List Token) (worded : Worded row) where
       let e : getD K a NoToken ≡ (getD row a (sign NoToken)) .kind = List·getD-map (λ (t : Token). t .kind) row a (sign NoToken) in
       ap (λ (w : List ℕ). record { kind = (getD row a (sign NoToken)) .kind; word = w }) (worded a h (λ u. q (e ∙ u))) ∙ ap sign (sym e)
 
-  take-sign : (a k : ℕ) → kindAt K a ≡ k → k ≢ NoToken → k ≢ Identifier → drop a row ≡ sign k ∷ drop (suc a) row
+  pub take-sign : (a k : ℕ) → kindAt K a ≡ k → k ≢ NoToken → k ≢ Identifier → drop a row ≡ sign k ∷ drop (suc a) row
   take-sign a k e q z =
       let q′ : kindAt K a ≢ NoToken = λ u. q (sym e ∙ u) in
       take-token a q′ ∙ ap (λ (t : Token). t ∷ drop (suc a) row) (signed a (in-row a q′) (λ u. z (sym e ∙ u)) ∙ ap sign e)
 
-  comma-is : {d n a a′ : ℕ} {h h′ : Bool} {x : Nodes} → Read K list d n a h x a′ h′ → (l : List Token) → comma-before x l ≡ sign Comma ∷ l
+  pub comma-is : {inner : ℕ → ℕ} {d n a a′ : ℕ} {h h′ : Bool} {x : Nodes} → Derivation K inner list d n a h x a′ h′ → (l : List Token) → comma-before x l ≡ sign Comma ∷ l
   unfolding comma-before
   comma-is (a-token t p r) l = absurd t
   comma-is (a-group t lim op e r₁ r) l = absurd t
@@ -145,7 +146,7 @@ module _ (row : List Token) (worded : Worded row) where
     shut {a = a} (by-one e) q = (q, rw (take-sign a Greater e (omega arith) (omega arith)))
     shut {a = a} (by-two e two) q = (λ u. gone a e .0, rw (take-sign a ShiftRight e (omega arith) (omega arith)) (simp (gone a e .0, gone a e .1)))
 
-    says : {l : Region} {d n a a′ : ℕ} {h h′ : Bool} {x : Nodes} → Read K l d n a h x a′ h′ → Fine h → Writes l a x a′ h′
+    says : {inner : ℕ → ℕ} {l : Region} {d n a a′ : ℕ} {h h′ : Bool} {x : Nodes} → Derivation K inner l d n a h x a′ h′ → Fine h → Writes l a x a′ h′
     unfolding Writes Fine ending written comma-before each
     says (end-row e) q = (q, refl)
     says (end-group {a = a} parens e) q = (q, rw (take-sign a RightParen e (omega arith) (omega arith)))
@@ -192,7 +193,7 @@ module _ (row : List Token) (worded : Worded row) where
     shut-weighs {a = a} (by-one e) = omega (arith, weighed a Greater e (omega arith) (omega arith))
     shut-weighs {a = a} (by-two e two) = omega (arith, weighed a ShiftRight e (omega arith) (omega arith))
 
-    weighs : {l : Region} {d n a a′ : ℕ} {h h′ : Bool} {x : Nodes} → Read K l d n a h x a′ h′
+    weighs : {inner : ℕ → ℕ} {l : Region} {d n a a′ : ℕ} {h h′ : Bool} {x : Nodes} → Derivation K inner l d n a h x a′ h′
         → sum w (drop a row) + half-weight h ≡ sum w (written row x) + ending-weight l + (sum w (drop a′ row) + half-weight h′)
     unfolding written sum ending-weight half-weight
     weighs (end-row e) = omega arith
@@ -208,23 +209,20 @@ module _ (row : List Token) (worded : Worded row) where
 
   -- ---- of the whole row
 
-  module _ (known : KindsKnown K) (cpp : Bool) {x : Nodes} {a : ℕ} {h : Bool} {m : ℕ} (e : reading cpp K ≡ got x a h m) where
-    r : Read K top 0 0 0 false x a h
-    r = derived K cpp e
-
-    at-end : drop a row ≡ []
+  module _ (known : KindsKnown K) {inner : ℕ → ℕ} {x : Nodes} (d : RowDerived K inner x) where
+    pub at-end : drop (d .at) row ≡ []
     at-end =
-        let u : length row ≤ a = omega (arith, nothing-left K cpp e known .0, length-map row (λ (t : Token). t .kind)) in
+        let u : length row ≤ d .at = omega (arith, nothing-left K d known .0, length-map row (λ (t : Token). t .kind)) in
         drop-of-length-le row u
 
     each-same : (f : Token → List Token) → ((i : ℕ) → kindAt K i ≡ ShiftRight → (f (sign Greater) ≡ []) × (f (sign ShiftRight) ≡ []))
         → each f (written row x) ≡ each f row
     unfolding Writes Fine ending each
-    each-same f gone = sym (says f gone r (λ u. absurd (true≢false (sym u))) .1 ∙ rw at-end (append-nil _))
+    each-same f gone = sym (says f gone (d .derivation) (λ u. absurd (true≢false (sym u))) .1 ∙ rw at-end (append-nil _))
 
     weight-same : sum weight (written row x) ≡ sum weight row
     unfolding sum half-weight ending-weight weight closing-angles halved
-    weight-same = omega (arith, rw at-end at (weighs weight refl r), ap (half-weight weight refl) (nothing-left K cpp e known .1))
+    weight-same = omega (arith, rw at-end at (weighs weight refl (d .derivation)), ap (half-weight weight refl) (nothing-left K d known .1))
 
     -- They have `>` equally often,
     pub closing-angles-as-often : closing-angles (halved (written row x)) ≡ closing-angles (halved row)

@@ -19,6 +19,7 @@ use Rattle.rows.specs.declared.answer.TypeNameError.the-variants.{InvalidRuleTa
 use Rattle.reader.specs.Nodes.{Nodes, count, node-width, records}
 use Rattle.reader.specs.Reading.{reading}
 use Rattle.reader.specs.ReaderSays.{TreeRead}
+use Rattle.reader.specs.Laws.Derived.{row-derived}
 use Rattle.reader.specs.Laws.Bounds.{nothing-left, two-nodes}
 use Rattle.reader.specs.Laws.Buffer.{holds}
 use Rattle.reader.specs.Laws.NodeNumbers.{three-each}
@@ -67,7 +68,7 @@ module _ {file : List ℕ} {room : ℕ} {ts : List RowToken} {x : Nodes} {steps 
     tree-read =
         let f = accepted-as in
         let r = accepted-read (f .head-of .language) (f .head-of .standard) (f .head-of .flag) (kinds-of ts) _ (f .row-accepted) in
-        let left = nothing-left (kinds-of ts) cpp (r .reads) (kinds-known ts (good-row format file most-tokens head-length ts (a .row-read))) in (
+        let left = nothing-left (kinds-of ts) (row-derived (kinds-of ts) cpp (r .reads)) (kinds-known ts (good-row format file most-tokens head-length ts (a .row-read))) in (
           f .row-accepted .reading-steps,
           record {
             nodes = x;
@@ -80,7 +81,7 @@ module _ {file : List ℕ} {room : ℕ} {ts : List RowToken} {x : Nodes} {steps 
 
     accepted-stands : Stands tree (kinds-of ts) 0 (count x) x
     unfolding tree-read
-    accepted-stands = tree-stands cpp (tree-read .1)
+    accepted-stands = tree-stands (tree-read .1) (row-derived (kinds-of ts) cpp (tree-read .1 .is))
 
     accepted-nodes : NodesStand tree (kinds-of ts) 0 (count x)
     unfolding tree-read
@@ -88,7 +89,7 @@ module _ {file : List ℕ} {room : ℕ} {ts : List RowToken} {x : Nodes} {steps 
       nodes = x;
       stands = accepted-stands;
       room = holds x (count x) tree refl w;
-      few = omega (arith, few, two-nodes (kinds-of ts) cpp (tree-read .1 .is));
+      few = omega (arith, few, two-nodes (kinds-of ts) (row-derived (kinds-of ts) cpp (tree-read .1 .is)));
     }
 
 -- The tree of a file and a buffer's length is one.

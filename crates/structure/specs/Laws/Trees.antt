@@ -10,11 +10,11 @@ use native.Mathlib.Omega.{arith}
 use lib.ListN.{length, getD, drop, take-append-drop}
 use lib.Seq.{getD-drop, drop-drop, drop-at}
 use Rattle.reader.specs.Nodes.{NodeKind, number, Nodes, none, node, count, node-width, records}
-use Rattle.reader.specs.Reading.{argument, reading}
+use Rattle.reader.specs.Reading.{Region, argument, Got}
 use Rattle.reader.specs.ReaderSays.{TreeRead}
 use Rattle.reader.specs.Laws.Tokens.{inside}
 use Rattle.reader.specs.Laws.NodeNumbers.{three-each}
-use Rattle.reader.specs.Laws.Derived.{Read, end-row, end-group, end-argument, a-token, a-group, a-list, last, more, derived}
+use Rattle.reader.specs.Derivation.{Derivation, end-row, end-group, end-argument, a-token, a-group, a-list, last, more, RowDerived}
 use Rattle.reader.specs.Laws.Bounds.{opener-inside}
 use Rattle.type_nodes.specs.Stands.{Stands, ends, here}
 
@@ -56,12 +56,12 @@ from-records tree kinds (node k i b x) a e rest q h t =
 
 module _ (row : List ℕ) where
   -- An argument begins with its first node.
-  begins : {d n a a′ i : ℕ} {h h′ : Bool} {k : NodeKind} {y z : Nodes} → Read row argument d n a h (node k i y z) a′ h′ → i ≡ a
+  begins : {inner : ℕ → ℕ} {d n a a′ i : ℕ} {h h′ : Bool} {k : NodeKind} {y z : Nodes} → Derivation row inner argument d n a h (node k i y z) a′ h′ → i ≡ a
   begins (a-token t p r) = refl
   begins (a-group t lim op e r₁ r) = refl
   begins (a-list t lim e r₁ r) = refl
 
-  pub tokens-read : {l : _} {d n a a′ : ℕ} {h h′ : Bool} {x : Nodes} → Read row l d n a h x a′ h′ → Tokens (length row) x
+  pub tokens-read : {inner : ℕ → ℕ} {l : Region} {d n a a′ : ℕ} {h h′ : Bool} {x : Nodes} → Derivation row inner l d n a h x a′ h′ → Tokens (length row) x
   tokens-read (end-row e) = tt
   tokens-read (end-group op e) = tt
   tokens-read (end-argument s) = tt
@@ -71,11 +71,11 @@ module _ (row : List ℕ) where
   tokens-read (last r c) = let u = tokens-read r in (subst (λ (m : ℕ). m < length row) (begins r) (u .0), u, tt)
   tokens-read (more r e r₁) = let u = tokens-read r in (subst (λ (m : ℕ). m < length row) (begins r) (u .0), u, tokens-read r₁)
 
--- ---- a row that was read
+-- ---- a row that was read, however it was read
 
-module _ (cpp : Bool) {tree kinds : List ℕ} {allowance n m : ℕ} (r : TreeRead kinds allowance (reading cpp kinds) n m tree) where
+module _ {tree kinds : List ℕ} {allowance n m : ℕ} {g : Got} (r : TreeRead kinds allowance g n m tree) {inner : ℕ → ℕ} (q : RowDerived kinds inner (r .nodes)) where
   pub tree-stands : Stands tree kinds 0 n (r .nodes)
   tree-stands =
       from-records tree kinds (r .nodes) 0 n (drop (node-width * n) tree) (omega (arith, r .counted))
       (sym (take-append-drop (node-width * n) tree) ∙ ap (λ (l : List ℕ). l ++ drop (node-width * n) tree) (r .written))
-      (tokens-read kinds (derived kinds cpp (r .is)))
+      (tokens-read kinds (q .derivation))

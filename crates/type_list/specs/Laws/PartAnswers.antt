@@ -19,6 +19,7 @@ use Rattle.rows.specs.declared.head.Head.{Head}
 use Rattle.prescan.specs.Prescan.{Scanned, passed, prescan}
 use Rattle.prescan.specs.Prescan
 use Rattle.reader.specs.Nodes.{Nodes, count, node-width, numbers-per-token, records}
+use Rattle.reader.specs.Laws.Derived.{row-derived}
 use Rattle.reader.specs.Laws.Bounds.{two-nodes}
 use Rattle.reader.specs.Laws.Buffer.{lent, given-back, after-front}
 use Rattle.type_name.specs.FileRow.{passes}
@@ -72,7 +73,7 @@ module _ (language standard flag : ℕ) (kinds words : List ℕ) (allowance : �
   pub two-each : (x : Nodes) (m : ℕ) → o ≡ accepted x m → count x ≤ 2 * length kinds
   two-each x m q =
       let r = subst (RowComes language standard flag kinds words) q (row-comes language standard flag kinds words allowance) in
-      two-nodes kinds (eqb language Cpp) (accepted-read language standard flag kinds words r .reads)
+      two-nodes kinds (row-derived kinds (eqb language Cpp) (accepted-read language standard flag kinds words r .reads))
 
 -- ---- what the code answers, by its cases
 

@@ -19,7 +19,8 @@ use Rattle.prescan.specs.Matcher.{Opener}
 use Rattle.prescan.specs.Prescan.{Scan, Scanned, passed, refused, start, scan, valid-start, valid-end, row-end, at-row-end, prescan}
 use Rattle.reader.specs.Nodes.{NodeKind, T-node, A-node, Nodes, none, node, number, count, node-width, records, kind-of, token-of}
 use Rattle.reader.specs.Reading.{Region, top, kindAt}
-use Rattle.reader.specs.Laws.Derived.{Read, end-row, end-group, end-argument, a-token, a-group, a-list, last, more, Closes, by-half, by-one, by-two, Opens, parens, brackets, derived}
+use Rattle.reader.specs.Derivation.{Opens, parens, brackets, Closes, by-half, by-one, by-two, Derivation, end-row, end-group, end-argument, a-token, a-group, a-list, last, more}
+use Rattle.reader.specs.Laws.Derived.{derived}
 use Rattle.reader.specs.Laws.NodeNumbers.{In, here, beside, below, place, numbered, says}
 use Rattle.type_name.specs.Laws.AcceptedRow.{RowRead}
 
@@ -45,7 +46,7 @@ module _ (row : List ℕ) where
   closes-on (by-one e) = omega arith
   closes-on (by-two e l) = omega arith
 
-  read-from : {l : Region} {d n a a′ : ℕ} {h h′ : Bool} {x : Nodes} → Read row l d n a h x a′ h′ → TokensFrom a x × (a ≤ a′)
+  read-from : {inner : ℕ → ℕ} {l : Region} {d n a a′ : ℕ} {h h′ : Bool} {x : Nodes} → Derivation row inner l d n a h x a′ h′ → TokensFrom a x × (a ≤ a′)
   read-from (end-row e) = (tt, omega arith)
   read-from (end-group o e) = (tt, omega arith)
   read-from (end-argument s) = (tt, omega arith)
@@ -70,7 +71,7 @@ pub record Starts (x : Nodes) : Type 0 where
   pub is : x ≡ node T-node 0 none others
   pub later : TokensFrom 1 others
 
-top-starts : (row : List ℕ) {x : Nodes} {a : ℕ} {h : Bool} → Read row top 0 0 0 false x a h → (kindAt row 0 ≡ Identifier) ⊎ (kindAt row 0 ≡ Scope) → Starts x
+top-starts : (row : List ℕ) {inner : ℕ → ℕ} {x : Nodes} {a : ℕ} {h : Bool} → Derivation row inner top 0 0 0 false x a h → (kindAt row 0 ≡ Identifier) ⊎ (kindAt row 0 ≡ Scope) → Starts x
 top-starts row (end-row e) k = absurd (⊎-elim (λ (q : kindAt row 0 ≡ Identifier). omega (arith, e, q)) (λ (q : kindAt row 0 ≡ Scope). omega (arith, e, q)) k)
 top-starts row (a-token {x = x} t p r) k = record { others = x; is = refl; later = read-from row r .0 }
 top-starts row (a-group t l parens e r s) k = absurd (⊎-elim (λ (q : kindAt row 0 ≡ Identifier). omega (arith, e, q)) (λ (q : kindAt row 0 ≡ Scope). omega (arith, e, q)) k)

@@ -64,56 +64,74 @@ module _ (language : ℕ) (kinds : List ℕ) where
 
 -- ---- its checks
 
--- The row was accepted with this tree after these steps: every place let it pass.
-pub record RowAccepted (language standard flag : ℕ) (kinds words : List ℕ) (x : Nodes) (steps : ℕ) : Type 0 where
+-- A row whose reading came to `o` was accepted with this tree after these steps: every place let it pass.
+pub record CheckedAs (o : RowAnswer) (language standard flag : ℕ) (kinds words : List ℕ) (x : Nodes) (steps : ℕ) : Type 0 where
   pub reading-steps : ℕ
-  pub is-read : row-tree language kinds ≡ accepted x reading-steps
+  pub is-read : o ≡ accepted x reading-steps
   pub structure-steps : ℕ
   pub structured : structure-of language flag kinds words x ≡ holds structure-steps
   pub has-all : missing-feature language standard kinds words ≡ Nothing
   pub all-steps : reading-steps + structure-steps ≡ steps
 
+-- The same of the reading of document 01.
+abbrev pub RowAccepted : (language standard flag : ℕ) (kinds words : List ℕ) (x : Nodes) (steps : ℕ) → Type 0
+RowAccepted language standard flag kinds words x steps = CheckedAs (row-tree language kinds) language standard flag kinds words x steps
+
 -- How its tree was read.
 pub accepted-read : (language standard flag : ℕ) (kinds words : List ℕ) {x : Nodes} {steps : ℕ} (r : RowAccepted language standard flag kinds words x steps) → RowRead language kinds x (r .reading-steps)
 accepted-read language standard flag kinds words r = subst (TreeComes language kinds) (r .is-read) (tree-comes language kinds)
 
-module _ (language standard flag : ℕ) (kinds words : List ℕ) where
-  abbrev pub RowComes : RowAnswer → Type 0
-  RowComes (accepted x m) = RowAccepted language standard flag kinds words x m
-  RowComes (refused e m) = Unit {0}
+module _ (o : RowAnswer) (language standard flag : ℕ) (kinds words : List ℕ) where
+  abbrev pub CheckedComes : RowAnswer → Type 0
+  CheckedComes (accepted x m) = CheckedAs o language standard flag kinds words x m
+  CheckedComes (refused e m) = Unit {0}
 
-  module _ (x : Nodes) (m : ℕ) (is-read : row-tree language kinds ≡ accepted x m) where
+  module _ (x : Nodes) (m : ℕ) (is-read : o ≡ accepted x m) where
     profile-comes : (n : ℕ) → structure-of language flag kinds words x ≡ holds n → (l : Lack) → missing-feature language standard kinds words ≡ l
-        → RowComes (by-profile x (m + n) l)
+        → CheckedComes (by-profile x (m + n) l)
     unfolding by-profile
     profile-comes n q Nothing e = record { reading-steps = m; is-read = is-read; structure-steps = n; structured = q; has-all = e; all-steps = refl }
     profile-comes n q (Lacks f) e = tt
 
     structure-comes : (said : Said) → structure-of language flag kinds words x ≡ said
-        → RowComes (on-tree (by-structure x m said) λ y k. by-profile y k (missing-feature language standard kinds words))
+        → CheckedComes (on-tree (by-structure x m said) λ y k. by-profile y k (missing-feature language standard kinds words))
     unfolding by-structure on-tree
     structure-comes (holds n) q = profile-comes n q (missing-feature language standard kinds words) refl
     structure-comes (fails n) q = tt
 
-  checked-comes : (a : RowAnswer) → row-tree language kinds ≡ a → RowComes (tree-checked language standard flag kinds words a)
+  checked-comes : (a : RowAnswer) → o ≡ a → CheckedComes (tree-checked language standard flag kinds words a)
   unfolding tree-checked on-tree
   checked-comes (accepted x m) e = structure-comes x m e (structure-of language flag kinds words x) refl
   checked-comes (refused e m) q = tt
 
-  limited-comes : (allowance : ℕ) (a : RowAnswer) → RowComes a → RowComes (answer-within allowance a)
+  limited-comes : (allowance : ℕ) (a : RowAnswer) → CheckedComes a → CheckedComes (answer-within allowance a)
   unfolding answer-within
-  limited-comes allowance a c = by-if RowComes (leb (row-steps a) allowance) (λ _. c) (λ _. tt)
+  limited-comes allowance a c = by-if CheckedComes (leb (row-steps a) allowance) (λ _. c) (λ _. tt)
+
+  -- Every accepted answer to the reading comes of it.
+  pub comes-of : (allowance : ℕ) → CheckedComes (answer-within allowance (tree-checked language standard flag kinds words o))
+  comes-of allowance = limited-comes allowance (tree-checked language standard flag kinds words o) (checked-comes o refl)
+
+  -- "The same or any later standard of that language", "every allowance not below those steps".
+  pub checked-stable : (standard′ allowance : ℕ) (x : Nodes) (steps : ℕ) → CheckedAs o language standard flag kinds words x steps
+      → SameOrLater standard standard′ → steps ≤ allowance → answer-within allowance (tree-checked language standard′ flag kinds words o) ≡ accepted x steps
+  unfolding tree-checked on-tree by-structure by-profile answer-within row-steps
+  checked-stable standard′ allowance x steps r later enough =
+      rw (r .is-read, r .structured, nothing-missing-later standard standard′ later language kinds words (r .has-all), r .all-steps, le-leb steps allowance enough) refl
+
+module _ (language standard flag : ℕ) (kinds words : List ℕ) where
+  abbrev pub RowComes : RowAnswer → Type 0
+  RowComes = CheckedComes (row-tree language kinds) language standard flag kinds words
 
   pub row-comes : (allowance : ℕ) → RowComes (answerOf language standard flag kinds words allowance)
   unfolding answerOf unlimited
-  row-comes allowance = limited-comes allowance (tree-checked language standard flag kinds words (row-tree language kinds)) (checked-comes (row-tree language kinds) refl)
+  row-comes allowance = comes-of (row-tree language kinds) language standard flag kinds words allowance
 
--- "The same or any later standard of that language", "every allowance not below those steps".
 pub row-stable : (language standard standard′ flag : ℕ) (kinds words : List ℕ) (allowance : ℕ) (x : Nodes) (steps : ℕ) → RowAccepted language standard flag kinds words x steps
     → SameOrLater standard standard′ → steps ≤ allowance → answerOf language standard′ flag kinds words allowance ≡ accepted x steps
-unfolding answerOf unlimited tree-checked on-tree by-structure by-profile answer-within row-steps
+unfolding answerOf unlimited
 row-stable language standard standard′ flag kinds words allowance x steps r later enough =
-    rw (r .is-read, r .structured, nothing-missing-later standard standard′ later language kinds words (r .has-all), r .all-steps, le-leb steps allowance enough) refl
+    checked-stable (row-tree language kinds) language standard flag kinds words standard′ allowance x steps r later enough
 
 -- ---- a file
 

@@ -30,6 +30,8 @@ use Rattle.reader.specs.ReaderSays.{TreeRead, LeftOver, ParseSays, Parses}
 use Rattle.reader.specs.declared.parser.Parsed.{Parsed}
 use Rattle.reader.specs.declared.parser.Parsed.the-variants as R
 use Rattle.reader.specs.Allowance.{steps}
+use Rattle.reader.specs.Derivation.{RowDerived}
+use Rattle.reader.specs.Laws.Derived.{row-derived}
 use Rattle.reader.specs.Laws.Bounds.{two-nodes}
 use Rattle.reader.specs.Laws.Buffer.{holds as in-buffer}
 use Rattle.type_nodes.specs.Stands.{WordedNodes}
@@ -257,61 +259,66 @@ module _ {d : Scanned} where
   pub scan-passed : {r : Prescanned} → r ≡ P.Passed → PrescanSays r d → (t : Scan) × (d ≡ passed t)
   scan-passed q h = subst (λ (c : Prescanned). Same c d) q (h .same)
 
--- ---- the tree of a row
+-- ---- the tree of a row, from what its reading came to, however it was read
+
+at-end : (kinds : List ℕ) → whole-row kinds (length kinds) false ≡ true
+unfolding whole-row
+at-end kinds = rw (eq-eqb (length kinds) (length kinds) refl) refl
+
+not-at-end : (kinds : List ℕ) (at : ℕ) (half : Bool) → (at ≢ length kinds) ⊎ (half ≡ true) → whole-row kinds at half ≡ false
+unfolding whole-row
+not-at-end kinds at half c = ⊎-elim (λ (q : at ≢ length kinds). rw (ne-eqb at (length kinds) q) refl) (λ (q : half ≡ true). rw q (and-false (eqb at (length kinds)))) c
+
+-- What a reading accepts is derived.
+abbrev pub GotDerived : (kinds : List ℕ) (inner : ℕ → ℕ) → Got → Type 0
+GotDerived kinds inner g = (x : Nodes) (a : ℕ) (h : Bool) (m : ℕ) → g ≡ got x a h m → RowDerived kinds inner x
+
+module _ (al : ℕ) (kinds : List ℕ) (g : Got) {inner : ℕ → ℕ} (sound : GotDerived kinds inner g) where
+  tree-told : {n m : ℕ} {tree : List ℕ} → TreeRead kinds al g n m tree → TreeTold kinds al (tree-of kinds g) (R.Tree n m) tree
+  unfolding tree-of
+  tree-told r = (
+    r .nodes,
+    rw (r .is, at-end kinds) refl,
+    record {
+      allowed = r .allowed;
+      counted = r .counted;
+      few = omega (arith, two-nodes kinds (sound (r .nodes) (length kinds) false _ (r .is)), r .counted);
+      written = r .written;
+      stands = tree-stands r (sound (r .nodes) (length kinds) false _ (r .is));
+    },
+  )
+
+  refused-told : {e : TypeNameError} {m : ℕ} → (g ≡ bad (refusal e) m) ⊎ LeftOver kinds g e m → tree-of kinds g ≡ refused e m
+  unfolding tree-of refusal-of
+  refused-told c =
+      ⊎-elim (λ q. rw q refl) (λ (o : LeftOver kinds g _ _). rw (o .is, o .error, not-at-end kinds (o .at) (o .half) (o .over)) refl) c
+
+  over-told : (d : Got) → al < steps d → al < row-steps (tree-of kinds d)
+  unfolding tree-of steps row-steps
+  over-told (bad e m) p = p
+  over-told (got x at half m) p = by (whole-row kinds at half)
+    where
+      by : (b : Bool) → al < row-steps (if b then accepted x m else refused UnexpectedTokenAfterTypeName m)
+      by true = p
+      by false = p
+
+  says-by : (r : Parsed) (tree : List ℕ) → ParseSays kinds al g r tree → TreeTold kinds al (tree-of kinds g) r tree
+  says-by (R.Tree n m) tree h = tree-told h
+  says-by (R.Refused e m) tree h = (h .0, refused-told (h .1))
+  says-by R.AllowancePassed tree h = over-told g h
+
+  pub parsed-tree : {r : Parsed} {tree : List ℕ} → Parses kinds al g r tree → TreeSays kinds al (tree-of kinds g) r tree
+  parsed-tree {r} {tree} h = record { says = says-by r tree (h .says) }
+
+-- ---- the tree of a row, by document 01's reading
 
 module _ (l al : ℕ) (kinds : List ℕ) where
-  abbrev g : Got
-  g = reading (eqb l Cpp) kinds
-
   pub tree-refused : {e : TypeNameError} {tree : List ℕ} → prescan l kinds ≡ Prescan.refused e → TreeSays kinds al (row-tree l kinds) (R.Refused e 0) tree
   unfolding row-tree after-prescan
   tree-refused q = record { says = (omega arith, ap (after-prescan l kinds) q) }
 
-  module _ (t : (t : Scan) × (prescan l kinds ≡ passed t)) where
-    row-reads : row-tree l kinds ≡ tree-of kinds g
-    unfolding row-tree after-prescan
-    row-reads = ap (after-prescan l kinds) (t .1)
-
-    at-end : whole-row kinds (length kinds) false ≡ true
-    unfolding whole-row
-    at-end = rw (eq-eqb (length kinds) (length kinds) refl) refl
-
-    not-at-end : (at : ℕ) (half : Bool) → (at ≢ length kinds) ⊎ (half ≡ true) → whole-row kinds at half ≡ false
-    unfolding whole-row
-    not-at-end at half c = ⊎-elim (λ (q : at ≢ length kinds). rw (ne-eqb at (length kinds) q) refl) (λ (q : half ≡ true). rw q (and-false (eqb at (length kinds)))) c
-
-    tree-told : {n m : ℕ} {tree : List ℕ} → TreeRead kinds al g n m tree → TreeTold kinds al (tree-of kinds g) (R.Tree n m) tree
-    unfolding tree-of
-    tree-told r = (
-      r .nodes,
-      rw (r .is, at-end) refl,
-      record {
-        allowed = r .allowed;
-        counted = r .counted;
-        few = omega (arith, two-nodes kinds (eqb l Cpp) (r .is), r .counted);
-        written = r .written;
-        stands = tree-stands (eqb l Cpp) r;
-      },
-    )
-
-    refused-told : {e : TypeNameError} {m : ℕ} → (g ≡ bad (refusal e) m) ⊎ LeftOver kinds g e m → tree-of kinds g ≡ refused e m
-    unfolding tree-of refusal-of
-    refused-told c =
-        ⊎-elim (λ q. rw q refl) (λ (o : LeftOver kinds g _ _). rw (o .is, o .error, not-at-end (o .at) (o .half) (o .over)) refl) c
-
-    over-told : (d : Got) → al < steps d → al < row-steps (tree-of kinds d)
-    unfolding tree-of steps row-steps
-    over-told (bad e m) p = p
-    over-told (got x at half m) p = by (whole-row kinds at half)
-      where
-        by : (b : Bool) → al < row-steps (if b then accepted x m else refused UnexpectedTokenAfterTypeName m)
-        by true = p
-        by false = p
-
-    says-by : (r : Parsed) (tree : List ℕ) → ParseSays kinds al g r tree → TreeTold kinds al (tree-of kinds g) r tree
-    says-by (R.Tree n m) tree h = tree-told h
-    says-by (R.Refused e m) tree h = (h .0, refused-told (h .1))
-    says-by R.AllowancePassed tree h = over-told g h
-
-    pub tree-parsed : {r : Parsed} {tree : List ℕ} → Parses kinds al g r tree → TreeSays kinds al (row-tree l kinds) r tree
-    tree-parsed {r} {tree} h = record { says = subst (λ (o : RowAnswer). TreeTold kinds al o r tree) (sym row-reads) (says-by r tree (h .says)) }
+  pub tree-parsed : (t : Scan) × (prescan l kinds ≡ passed t) → {r : Parsed} {tree : List ℕ} → Parses kinds al (reading (eqb l Cpp) kinds) r tree → TreeSays kinds al (row-tree l kinds) r tree
+  unfolding row-tree after-prescan
+  tree-parsed t {r} {tree} h =
+      subst (λ (o : RowAnswer). TreeSays kinds al o r tree) (sym (ap (after-prescan l kinds) (t .1)))
+      (parsed-tree al kinds (reading (eqb l Cpp) kinds) (λ x a k m e. row-derived kinds (eqb l Cpp) e) h)

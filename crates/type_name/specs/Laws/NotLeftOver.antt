@@ -23,6 +23,7 @@ use Rattle.prescan.specs.Laws.Numbered
 use Rattle.reader.specs.Nodes.{Nodes}
 use Rattle.reader.specs.Reading.{Got, got, bad, Fault, refusal, no-list, reading}
 use Rattle.reader.specs.Laws.Tokens.{KindsKnown}
+use Rattle.reader.specs.Laws.Derived.{row-derived}
 use Rattle.reader.specs.Laws.Bounds.{nothing-left}
 use Rattle.reader.specs.Laws.Refusals.{Refuses, too-deep, not-closed, wrong-closer, refuses}
 use Rattle.structure.specs.Said.{Said, holds, fails}
@@ -61,7 +62,7 @@ module _ (language standard flag : ℕ) (kinds words : List ℕ) (known : KindsK
   whole : {x : Nodes} {at : ℕ} {half : Bool} {m : ℕ} → reading (eqb language Cpp) kinds ≡ got x at half m → whole-row kinds at half ≡ true
   unfolding whole-row
   whole {at = at} e =
-      let n = nothing-left kinds (eqb language Cpp) e known in
+      let n = nothing-left kinds (row-derived kinds (eqb language Cpp) e) known in
       rw (n .1, eq-eqb at (length kinds) (n .0)) refl
 
   tree-other : (g : Got) → reading (eqb language Cpp) kinds ≡ g → RowOther (tree-of kinds g)

@@ -2,7 +2,6 @@
 -- Assumes nothing.
 use Prim.Native.Nat.{ℕ, _≤_}
 use mathlib.Core.Path.{_≡_, sym, ap, subst, _∙_}
-use mathlib.Core.Bool.{Bool}
 use mathlib.Core.List.{List}
 use native.Mathlib.Omega.{arith}
 use lib.ListN.{length, take}
@@ -14,13 +13,16 @@ use Rattle.rows.specs.Records.{RowToken, kinds-of, words-of}
 use Rattle.rows.specs.Laws.RowFacts.{GoodTokens, good-row}
 use Rattle.rows.specs.declared.answer.Answer.{Answer}
 use Rattle.rows.specs.declared.answer.Answer.the-variants.{Accepted}
+use Rattle.prescan.specs.Prescan.{Scan, passed, prescan}
 use Rattle.prescan.specs.Laws.Pairs.{prescan-pairs}
 use Rattle.reader.specs.Nodes.{Nodes, count, records}
-use Rattle.reader.specs.Reading.{MAX-NESTING-DEPTH, got, reading}
+use Rattle.reader.specs.Reading.{MAX-NESTING-DEPTH}
+use Rattle.reader.specs.Derivation.{RowDerived}
 use Rattle.reader.specs.Standing.{depth}
 use Rattle.reader.specs.Laws.Tokens.{KindsKnown}
 use Rattle.reader.specs.Laws.NodeNumbers.{three-each}
 use Rattle.reader.specs.Laws.Injective.{records-injective}
+use Rattle.reader.specs.Laws.Derived.{all-lists, row-derived}
 use Rattle.reader.specs.Laws.Bounds.{nesting}
 use Rattle.reader.specs.Laws.Openers.{one-G-each, one-B-each}
 use Rattle.reader.specs.Laws.Groups.{partner, below-each}
@@ -78,44 +80,53 @@ module _ (file before : List ℕ) (a : Answer) (after : List ℕ) (answered : An
       let f = accepted-file file (length before) x steps is-read in
       subst (λ (us : List RowToken). FileAccepted file us x steps) (one-row _ (f .0) ts (f .1 .row-is) (p .row-read)) (f .1)
 
+-- ---- what holds of the tree of a row, however it was read
+
+module _ (ts : List RowToken) (good : GoodTokens ts) {inner : ℕ → ℕ} {x : Nodes} (q : RowDerived (kinds-of ts) inner x) where
+  known : KindsKnown (kinds-of ts)
+  known = kinds-known ts good
+
+  pub derived-brackets : (language : ℕ) (s : Scan) → prescan language (kinds-of ts) ≡ passed s → BracketsOf (kinds-of ts) x
+  derived-brackets language s scanned =
+      let ps = prescan-pairs language (kinds-of ts) s scanned in
+      record {
+        pairs = ps .0;
+        paired = ps .1;
+        one-G-each = one-G-each (kinds-of ts) known q;
+        one-B-each = one-B-each (kinds-of ts) known q;
+        partner = partner (kinds-of ts) known (ps .0) (ps .1) q;
+        below-each = below-each (kinds-of ts) known (ps .0) (ps .1) q;
+      }
+
+  pub derived-written : WrittenAs (tokens-in ts) (kinds-of ts) x
+  derived-written =
+      let w = worded ts good in
+      let k : KindsKnown (kinds-in (tokens-in ts)) = rw (same-kinds ts) known in
+      let q′ : RowDerived (kinds-in (tokens-in ts)) inner x = subst (λ (ks : List ℕ). RowDerived ks inner x) (sym (same-kinds ts)) q in
+      record {
+        closing-angles-as-often = closing-angles-as-often (tokens-in ts) w k q′;
+        else-same = else-same (tokens-in ts) w k q′;
+        same-throughout = λ none. same-throughout (tokens-in ts) w k q′ (rw (same-kinds ts) none);
+      }
+
 -- ---- what holds of the tree of an accepted row
 
 module _ (language standard flag : ℕ) (ts : List RowToken) (x : Nodes) (steps : ℕ) (good : GoodTokens ts)
     (r : RowAccepted language standard flag (kinds-of ts) (words-of ts) x steps) where
-  abbrev cpp : Bool
-  cpp = eqb language Cpp
-
   abbrev is-read : RowRead language (kinds-of ts) x (r .reading-steps)
   is-read = accepted-read language standard flag (kinds-of ts) (words-of ts) r
 
-  known : KindsKnown (kinds-of ts)
-  known = kinds-known ts good
+  abbrev is-derived : RowDerived (kinds-of ts) all-lists x
+  is-derived = row-derived (kinds-of ts) (eqb language Cpp) (is-read .reads)
 
   pub nested : depth x ≤ MAX-NESTING-DEPTH
-  nested = nesting (kinds-of ts) cpp (is-read .reads)
+  nested = nesting (kinds-of ts) is-derived
 
   pub brackets : BracketsOf (kinds-of ts) x
-  brackets =
-      let ps = prescan-pairs language (kinds-of ts) (is-read .scan) (is-read .scanned) in
-      record {
-        pairs = ps .0;
-        paired = ps .1;
-        one-G-each = one-G-each (kinds-of ts) known cpp (is-read .reads);
-        one-B-each = one-B-each (kinds-of ts) known cpp (is-read .reads);
-        partner = partner (kinds-of ts) known (ps .0) (ps .1) cpp (is-read .reads);
-        below-each = below-each (kinds-of ts) known (ps .0) (ps .1) cpp (is-read .reads);
-      }
+  brackets = derived-brackets ts good is-derived language (is-read .scan) (is-read .scanned)
 
   pub written-as : WrittenAs (tokens-in ts) (kinds-of ts) x
-  written-as =
-      let w = worded ts good in
-      let k : KindsKnown (kinds-in (tokens-in ts)) = rw (same-kinds ts) known in
-      let reads : reading cpp (kinds-in (tokens-in ts)) ≡ got x (is-read .at) (is-read .half) (r .reading-steps) = rw (same-kinds ts) (is-read .reads) in
-      record {
-        closing-angles-as-often = closing-angles-as-often (tokens-in ts) w k cpp reads;
-        else-same = else-same (tokens-in ts) w k cpp reads;
-        same-throughout = λ none. same-throughout (tokens-in ts) w k cpp reads (rw (same-kinds ts) none);
-      }
+  written-as = derived-written ts good is-derived
 
 -- ---- the clauses
 
