@@ -1,0 +1,9 @@
+pub mod Same
+pub mod Names
+pub mod Buckets
+pub mod Tables
+pub mod Records
+pub mod ReadLoop
+pub mod MarkLoop
+pub mod Told
+pub mod Written

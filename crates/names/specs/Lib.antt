@@ -1,0 +1,4 @@
+pub mod NameList
+pub mod NamesSay
+pub mod Laws
+pub mod Examples
