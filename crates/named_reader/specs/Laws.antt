@@ -1,0 +1,12 @@
+pub mod Frames
+pub mod Moves
+pub mod Places
+pub mod Begun
+pub mod AtToken
+pub mod Tables
+pub mod RowLoop
+pub mod Sound
+pub mod SameNames
+pub mod Prescanned
+pub mod NoNames
+pub mod InOrder

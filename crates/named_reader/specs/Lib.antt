@@ -1,0 +1,5 @@
+pub mod NamedReading
+pub mod InOrder
+pub mod NamedSays
+pub mod Laws
+pub mod Examples
