@@ -5,5 +5,6 @@ pub mod Tables
 pub mod Records
 pub mod ReadLoop
 pub mod MarkLoop
+pub mod Walk
 pub mod Told
 pub mod Written

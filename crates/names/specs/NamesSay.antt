@@ -7,8 +7,8 @@ use mathlib.Core.Bool.{Bool, true, false}
 use mathlib.Core.List.{List, [], _∷_, _++_}
 use lib.ListN.{length, getD, replicate}
 use Rattle.rows.specs.Kinds.{Less}
-use Rattle.rows.specs.Format.{format}
-use Rattle.rows.specs.Records.{found, word-in}
+use Rattle.rows.specs.Format.{format, head-length, most-tokens}
+use Rattle.rows.specs.Records.{RowToken, row, found, word-in, records-from, kinds-of, places-of}
 use Rattle.rows.specs.declared.token.TokenRecord.the-variants.{Formed}
 use Rattle.names.specs.NameList.{most-names, is-name, listed, malformed, name-list}
 use Rattle.names.specs.declared.name_list.NamesRead.{NamesRead}
@@ -133,18 +133,24 @@ pub record ReadsNames (file : List ℕ) (r : NamesRead) (heads links places : Li
 
 -- ---- marks
 
--- What `mark_names` requires: the table of some names, and an offset and a mark for each token.
-pub record MarksRoom (kinds offsets names heads links places : List ℕ) (marks : List Bool) : Type 0 where
+-- A file's row is of these tokens, and has these kinds.
+pub record RowIs (file kinds : List ℕ) (ts : List RowToken) : Type 0 where
+  pub row-is : records-from format file most-tokens head-length ≡ row ts
+  pub kinds-are : kinds ≡ kinds-of ts
+
+-- What `mark_names` requires: the table of some names, the kinds of the file's row, and a mark for each token.
+pub record MarksRoom (file kinds names heads links places : List ℕ) (marks : List Bool) : Type 0 where
   pub table : SomeTable names heads links places
-  pub for-offsets : length kinds ≤ length offsets
+  pub tokens : List RowToken
+  pub of-row : RowIs file kinds tokens
   pub for-marks : length kinds ≤ length marks
 
--- Of each token directly before a `<`, whether its word is one of the names; other marks stay.
+-- Of each token directly before a `<`, whether its word is one of the names, `offsets` being where their records begin; other marks stay.
 pub record Marked (file kinds offsets : List ℕ) (ns : List (List ℕ)) (marks marks′ : List Bool) : Type 0 where
   pub marked : (i : ℕ) → suc i < length kinds → getD kinds (suc i) 0 ≡ Less → getD marks′ i false ≡ is-name ns (word-of file (getD offsets i 0))
   pub others : (i : ℕ) → getD kinds (suc i) 0 ≢ Less → getD marks′ i false ≡ getD marks i false
 
--- `mark_names`, of the names of the table.
-pub record Marks (file kinds offsets names heads links places : List ℕ) (marks marks′ : List Bool) : Type 0 where
-  pub says : (ns : List (List ℕ)) → Table names ns heads links places → Marked file kinds offsets ns marks marks′
+-- `mark_names`, of the names of the table and the tokens of the row.
+pub record Marks (file kinds names heads links places : List ℕ) (marks marks′ : List Bool) : Type 0 where
+  pub says : (ts : List RowToken) → RowIs file kinds ts → (ns : List (List ℕ)) → Table names ns heads links places → Marked file kinds (places-of ts) ns marks marks′
   pub kept : length marks′ ≡ length marks

@@ -23,7 +23,7 @@ pub fn wide_four(number: u32) -> usize
 }
 
 // The word of the well-formed token record at a byte offset.
-fn word_there(file: &[u8], place: usize) -> &[u8]
+pub fn word_there(file: &[u8], place: usize) -> &[u8]
     requires { ⌜ SomeRecord (now file) place ⌝ }
     ensures { λ r. ⌜ now r ≡ word-of (now (file .entry)) place ⌝ }
 {

@@ -10,7 +10,7 @@ use lib.ListN.{length, getD, set, length-set}
 use lib.Seq.{getD-set-same, getD-set-other}
 use Rattle.rows.specs.Kinds.{Less}
 use Rattle.names.specs.NameList.{is-name}
-use Rattle.names.specs.NamesSay.{word-of, Table, Looks, Marks}
+use Rattle.names.specs.NamesSay.{word-of, Table, Looks, Marked}
 
 -- The marks of the tokens before i are made, those from there on are as they were.
 pub record MarkedTo (file kinds offsets : List ℕ) (ns : List (List ℕ)) (marks₀ marks : List Bool) (i : ℕ) : Type 0 where
@@ -31,13 +31,10 @@ module _ (file kinds offsets names heads links places : List ℕ) (marks₀ : Li
   }
 
   module _ {marks : List Bool} {i : ℕ} (l : MarkLoop marks i) where
-    pub marks-end : length kinds ≤ i → Marks file kinds offsets names heads links places marks₀ marks
-    marks-end p = record {
-      says = λ ns t.
-          let m = l .so-far ns t in
-          record { marked = λ j q e. m .marked j (omega arith) e; others = λ j d. m .others j (λ _. d) };
-      kept = l .kept;
-    }
+    pub marks-end : length kinds ≤ i → (ns : List (List ℕ)) → Table names ns heads links places → Marked file kinds offsets ns marks₀ marks
+    marks-end p ns t =
+        let m = l .so-far ns t in
+        record { marked = λ j q e. m .marked j (omega arith) e; others = λ j d. m .others j (λ _. d) }
 
     pub marks-pass : getD kinds i 0 ≢ Less → MarkLoop marks (i + 1)
     marks-pass d = record {

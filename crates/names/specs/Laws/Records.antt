@@ -73,6 +73,11 @@ module _ {file : List ℕ} {at plain size : ℕ} (s : SomeRecord file at) (is-pl
 pub there-begins : {file : List ℕ} {at : ℕ} → SomeRecord file at → at + token-length format ≤ length file
 there-begins {file} {at} s = let fit = formed-fits format file at (s .kind) (s .size) (s .is) in omega (arith, fit .long, fit .inside)
 
+-- Its length, as code takes it.
+pub sized-at : (file : List ℕ) (at n : ℕ) → n ≡ little-endian short-bytes file at → n ≡ length-at format file at
+unfolding length-at
+sized-at file at n e = e
+
 -- ---- words have bytes
 
 abbrev Worded : List RowToken → Type 0
