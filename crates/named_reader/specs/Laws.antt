@@ -10,3 +10,4 @@ pub mod SameNames
 pub mod Prescanned
 pub mod NoNames
 pub mod InOrder
+pub mod AsBefore

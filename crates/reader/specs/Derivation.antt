@@ -16,7 +16,7 @@ pub data Opens : NodeKind → Region → (opener closer : ℕ) → Type 0 where
   parens : Opens G-node round LeftParen RightParen
   brackets : Opens B-node square LeftBracket RightBracket
 
--- A token of this kind can be a T: "`(` and `[` always begin a group".
+-- A token of this kind can be a T: it is there, and opens no group.
 pub record Plain (k : ℕ) : Type 0 where
   pub inside : k ≢ NoToken
   pub no-paren : k ≢ LeftParen
