@@ -1,5 +1,6 @@
 // The table of names: which of them share a bucket, linked from the newest on.
 
+use rows::bytes::same_bytes;
 use rows::bytes::two_bytes;
 use rows::bytes::wide;
 use rows::bytes::wide_two;
@@ -7,7 +8,6 @@ use rows::format::current;
 use rows::format::token_length;
 ghost use mathlib.Core.Path.{_≡_};
 ghost use Prim.Native.Nat.{_<_};
-ghost use Rattle.rows.specs.Words.{same-exactly};
 ghost use Rattle.names.specs.NamesSay.{Adds, Looks, LooksInChain, SomeChain, SomeNames, SomeRecord, SomeTable, bucket-of, buckets, word-of};
 
 pub const MOST_NAMES: usize = 512;
@@ -30,22 +30,6 @@ pub fn word_there(file: &[u8], place: usize) -> &[u8]
     let begin = place + token_length(current());
     let end = place + two_bytes(file, place);
     &file[begin..end]
-}
-
-pub fn same_bytes(first: &[u8], second: &[u8]) -> bool
-    ensures { λ r. ⌜ r ≡ same-exactly (now (first .entry)) (now (second .entry)) ⌝ }
-{
-    if first.len() != second.len() {
-        return false;
-    }
-    let mut i = 0;
-    while i < first.len() {
-        if first[i] != second[i] {
-            return false;
-        }
-        i += 1;
-    }
-    true
 }
 
 // The bucket that a word is looked for in.

@@ -6,6 +6,7 @@ pub mod Tokens
 pub mod KnownWords
 pub mod KnownTable
 pub mod KnownSearch
+pub mod SameBytes
 pub mod RowEnd
 pub mod RowLoop
 pub mod RowFacts

@@ -1,9 +1,10 @@
-// Numbers of a record: "All record numbers are little-endian."
+// Bytes: the numbers of a record, "All record numbers are little-endian", and two runs of bytes compared.
 
 ghost use mathlib.Core.Path.{_≡_};
 ghost use Prim.Native.Nat.{_+_, _^_, _<_, _≤_};
 ghost use lib.ListN.{length};
 ghost use Rattle.rows.specs.Records.{byte-values, little-endian};
+ghost use Rattle.rows.specs.Words.{same-exactly};
 
 // How many numbers so many bytes can be.
 const ONE_BYTE: usize = 256;
@@ -49,4 +50,20 @@ pub fn eight_bytes(file: &[u8], at: usize) -> usize
     ensures { λ r. ⌜ r ≡ little-endian 8 (now (file .entry)) at ⌝ }
 {
     four_bytes(file, at) + FOUR_BYTES * four_bytes(file, at + 4)
+}
+
+pub fn same_bytes(first: &[u8], second: &[u8]) -> bool
+    ensures { λ r. ⌜ r ≡ same-exactly (now (first .entry)) (now (second .entry)) ⌝ }
+{
+    if first.len() != second.len() {
+        return false;
+    }
+    let mut i = 0;
+    while i < first.len() {
+        if first[i] != second[i] {
+            return false;
+        }
+        i += 1;
+    }
+    true
 }

@@ -8,7 +8,6 @@ ghost use mathlib.Core.Bool.{Bool};
 ghost use Prim.Native.Nat.{_≤_, _<_};
 ghost use lib.ListN.{length};
 ghost use Rattle.rules.specs.RuleTable.{item-at, kind-item, word-item};
-ghost use Rattle.rows.specs.Words.{same-exactly};
 ghost use Rattle.rules.specs.ItemsStand.{item-read, OfItem, SomeItem};
 
 pub const WORD: u8 = 0;
@@ -104,20 +103,4 @@ pub fn item_end(table: &[u8], at: usize) -> usize
         return at + AFTER_TWO;
     }
     at + 1
-}
-
-pub fn same_bytes(first: &[u8], second: &[u8]) -> bool
-    ensures { λ r. ⌜ r ≡ same-exactly (now (first .entry)) (now (second .entry)) ⌝ }
-{
-    if first.len() != second.len() {
-        return false;
-    }
-    let mut i = 0;
-    while i < first.len() {
-        if first[i] != second[i] {
-            return false;
-        }
-        i += 1;
-    }
-    true
 }

@@ -3,7 +3,7 @@
 use crate::items::ANY;
 use crate::items::REST;
 use crate::items::item_end;
-use crate::items::same_bytes;
+use rows::bytes::same_bytes;
 ghost use mathlib.Core.Path.{_≡_};
 ghost use Prim.Native.Nat.{_≤_};
 ghost use lib.ListN.{length};

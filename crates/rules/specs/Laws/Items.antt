@@ -1,23 +1,20 @@
 -- Items as code reads them, test by test: document 02, C-11. Assumes nothing.
 use Prim.Native.Nat.{ℕ, suc, _+_, _-_, _≤_, _<_}
-use mathlib.Core.Path.{_≡_, refl, sym, ap, _∙_}
+use mathlib.Core.Path.{_≡_, refl, sym}
 use mathlib.Core.Logic.{_≢_}
-use mathlib.Core.Bool.{Bool, true, false, _&&_}
-use mathlib.Core.List.{List, [], _∷_}
+use mathlib.Core.Bool.{Bool, true, false}
+use mathlib.Core.List.{List}
 use native.Mathlib.Omega.{arith}
-use borrow.Author.Tests.{le-leb, lt-leb, eq-eqb, ne-eqb}
-use lib.ListN.{length, getD, take, drop, length-take, length-drop, drop-of-length-le}
-use lib.Dec.{T, leb, eqb}
+use borrow.Author.Tests.{le-leb, lt-leb, ne-eqb}
+use lib.ListN.{length, getD, take, drop, length-take, length-drop}
+use lib.Dec.{eqb}
 use mir.Facts.{eqb-no}
 use Rattle.rows.specs.Notation.{if_then_else_}
 use Rattle.rows.specs.Laws.Tests.{by-if}
-use Rattle.rows.specs.Laws.KnownSearch.{lengths-differ}
-use Rattle.rows.specs.Laws.KnownWords.{through-at}
-use Rattle.rows.specs.Words.{same-exactly, same-through}
 use Rattle.rows.specs.Kinds.{Identifier, End}
 use Rattle.rows.specs.Format.{longest-word}
-use Rattle.rows.specs.Records.{in-range, byte-values}
-use Rattle.rules.specs.Rules.{Item, word, kind, group, list, any, good-word, good-kind}
+use Rattle.rows.specs.Records.{in-range}
+use Rattle.rules.specs.Rules.{Item, word, kind, good-word, good-kind}
 use Rattle.rules.specs.RuleTable.{ItemFound, no-item, item, word-byte, kind-byte, group-byte, list-byte, any-byte, after-two, word-item, kind-item, item-at}
 use Rattle.rules.specs.ItemsStand.{item-read}
 use Rattle.rules.specs.declared.items.ItemRead.{ItemRead}
@@ -103,33 +100,3 @@ module _ (table : List ℕ) (end at : ℕ) where
     unfolding item-at
     item-is-none p =
         sym (rw (ne-eqb _ word-byte no-word, ne-eqb _ kind-byte no-kind, ne-eqb (getD table at 0) group-byte (λ e. absurd (omega (arith, e))), ne-eqb (getD table at 0) list-byte (λ e. absurd (omega (arith, e))), ne-eqb (getD table at 0) any-byte (λ e. absurd (omega (arith, e)))) refl)
-
--- ---- two parts of a table byte by byte
-
-module _ (w v : List ℕ) where
-  pub record SameSoFar (i : ℕ) : Type 0 where
-    pub inside : i ≤ length w
-    pub same : same-exactly w v ≡ same-exactly (drop i w) (drop i v)
-
-  pub same-begins : SameSoFar 0
-  same-begins = record { inside = omega arith; same = refl }
-
-  pub not-as-long : length w ≢ length v → false ≡ same-exactly w v
-  unfolding same-exactly
-  not-as-long d = sym (lengths-differ (λ b. b) w v d)
-
-  module _ (as-long : length w ≡ length v) (i : ℕ) (s : SameSoFar i) where
-    pub bytes-differ : i < length w → getD w i 0 ≢ getD v i 0 → false ≡ same-exactly w v
-    unfolding same-exactly
-    bytes-differ p d = sym (s .same ∙ through-at (λ b. b) w v i p (omega arith) ∙ rw (ne-eqb (getD w i 0) (getD v i 0) d) refl)
-
-    pub bytes-same : i < length w → getD w i 0 ≡ getD v i 0 → SameSoFar (i + 1)
-    unfolding same-exactly
-    bytes-same p e = record {
-      inside = omega arith;
-      same = s .same ∙ through-at (λ b. b) w v i p (omega arith) ∙ rw (eq-eqb (getD w i 0) (getD v i 0) e) refl;
-    }
-
-    pub all-same : length w ≤ i → true ≡ same-exactly w v
-    unfolding same-exactly same-through
-    all-same p = sym (s .same ∙ rw (drop-of-length-le w {i = i} p, drop-of-length-le v {i = i} (omega arith)) refl)

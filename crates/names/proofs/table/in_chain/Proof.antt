@@ -6,9 +6,9 @@ use Rattle.names.proofs.table.in_chain.Statement.{statement}
 use Rattle.names.proofs.table.in_chain.Tie as tie
 use Rattle.names.proofs.table.in_chain.Reads as reads
 use Rattle.names.proofs.table.in_chain.Lts as lts
-use Rattle.names.proofs.table.same_bytes.Reads as same-bytes-reads
 use Rattle.names.proofs.table.wide_four.Reads as wide-four-reads
 use Rattle.names.proofs.table.word_there.Reads as word-there-reads
+use Rattle.rows.proofs.bytes.same_bytes.Reads as same-bytes-reads
 use Rattle.rows.proofs.bytes.wide_two.Reads as wide-two-reads
 
 abbrev Inv-loop : tie.InvT-loop

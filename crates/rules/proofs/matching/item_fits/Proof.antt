@@ -8,8 +8,8 @@ use Rattle.rules.proofs.matching.item_fits.Statement.{statement}
 use Rattle.rules.proofs.matching.item_fits.Tie as tie
 use Rattle.rules.proofs.matching.item_fits.Reads as reads
 use Rattle.rules.proofs.matching.item_fits.Lts as lts
+use Rattle.rows.proofs.bytes.same_bytes.Reads as same-bytes-reads
 use Rattle.rules.proofs.items.item_end.Reads as item-end-reads
-use Rattle.rules.proofs.items.same_bytes.Reads as same-bytes-reads
 
 shared-slice-read-byte : tie.Need-shared-slice-read-byte
 shared-slice-read-byte c = omega (arith, item-moves _ (c .before .before .before .pre .stands), c .before .before .before .pre .stands .inside)

@@ -8,8 +8,8 @@ use Rattle.rules.proofs.overlaps.items_agree.Statement.{statement}
 use Rattle.rules.proofs.overlaps.items_agree.Tie as tie
 use Rattle.rules.proofs.overlaps.items_agree.Reads as reads
 use Rattle.rules.proofs.overlaps.items_agree.Lts as lts
+use Rattle.rows.proofs.bytes.same_bytes.Reads as same-bytes-reads
 use Rattle.rules.proofs.items.item_end.Reads as item-end-reads
-use Rattle.rules.proofs.items.same_bytes.Reads as same-bytes-reads
 
 item-end-requires : tie.Need-item-end-requires
 item-end-requires c κs = c .before .pre .0

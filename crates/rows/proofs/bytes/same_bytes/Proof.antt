@@ -2,11 +2,11 @@
 use Prim.Native.Nat.{_-_}
 use native.Mathlib.Omega.{arith}
 use lib.ListN.{length}
-use Rattle.names.specs.Laws.Same.{SameSoFar, same-begins, not-as-long, bytes-differ, bytes-same, all-same}
-use Rattle.names.proofs.table.same_bytes.Statement.{statement}
-use Rattle.names.proofs.table.same_bytes.Tie as tie
-use Rattle.names.proofs.table.same_bytes.Reads as reads
-use Rattle.names.proofs.table.same_bytes.Lts as lts
+use Rattle.rows.specs.Laws.SameBytes.{SameSoFar, same-begins, not-as-long, bytes-differ, bytes-same, all-same}
+use Rattle.rows.proofs.bytes.same_bytes.Statement.{statement}
+use Rattle.rows.proofs.bytes.same_bytes.Tie as tie
+use Rattle.rows.proofs.bytes.same_bytes.Reads as reads
+use Rattle.rows.proofs.bytes.same_bytes.Lts as lts
 
 abbrev Inv-loop : tie.InvT-loop
 Inv-loop first second i₀ i = SameSoFar first second i
