@@ -52,16 +52,16 @@ unfolding refusal-of whole-row
 tree-of kinds (bad e m) = refused (refusal-of e) m
 tree-of kinds (got x at half m) = if whole-row kinds at half then accepted x m else refused UnexpectedTokenAfterTypeName m
 
--- The places "Prescan" and "Row end", and then the reading. "Steps are 0 up to 18."
-unfoldable pub after-prescan : (language : ℕ) (kinds : List ℕ) → Scanned → RowAnswer
+-- The places "Prescan" and "Row end", and then what the reading came to. "Steps are 0 up to 18."
+unfoldable pub after-prescan : (kinds : List ℕ) → Got → Scanned → RowAnswer
 unfolding tree-of
-after-prescan language kinds (Prescan.refused e) = refused e 0
-after-prescan language kinds (passed s) = tree-of kinds (reading (eqb language Cpp) kinds)
+after-prescan kinds g (Prescan.refused e) = refused e 0
+after-prescan kinds g (passed s) = tree-of kinds g
 
 -- A row's tree, or why it has none: the places up to "Reading".
 unfoldable pub row-tree : (language : ℕ) (kinds : List ℕ) → RowAnswer
 unfolding after-prescan
-row-tree language kinds = after-prescan language kinds (prescan language kinds)
+row-tree language kinds = after-prescan kinds (reading (eqb language Cpp) kinds) (prescan language kinds)
 
 -- "Structure, flag 1": with flag 0 it holds without a step.
 unfoldable pub structure-of : (language flag : ℕ) (kinds words : List ℕ) → Nodes → Said

@@ -1,5 +1,6 @@
 pub mod Fields
 pub mod FileRow
+pub mod Refusals
 pub mod Total
 pub mod OnlyThen
 pub mod AcceptedRow

@@ -21,9 +21,9 @@ use Rattle.reader.specs.Reading.{MAX-NESTING-DEPTH}
 use Rattle.reader.specs.Written.{Token, written, halved, closing-angles, without-closing-angles}
 use Rattle.reader.specs.Standing.{depth, tokens-of, tokens-of-kind, IsGroup, Below}
 use Rattle.reader.specs.Nodes.{token-of}
-use Rattle.type_name.specs.FileRow.{passes}
+use Rattle.type_name.specs.FileRow.{Outcome, passes}
 use Rattle.type_name.specs.AnswerNumbers.{answer-numbers}
-use Rattle.type_name.specs.Answers.{accepted, outcome, answer, filled, final-buffer}
+use Rattle.type_name.specs.Answers.{RowAnswer, accepted, outcome, answer, filled, final-buffer}
 
 -- ---- demands 1 and 2
 
@@ -58,13 +58,17 @@ pub record AcceptedAs (file : List ℕ) (a : Answer) (after : List ℕ) (ts : Li
   pub row-read : records-from format file most-tokens head-length ≡ row ts
   pub tree-held : take (length (records x)) after ≡ records x
 
--- Every accepted file has such a row and tree, and "its tree is the one that demand 2's definition gives", zeros after it.
-pub record HasTree (file before : List ℕ) (a : Answer) (after : List ℕ) (steps : ℕ) : Type 0 where
+-- Such a row and tree, where the definition says `o` of the file: its tree, zeros after it.
+pub record TreeOf (o : Outcome RowAnswer) (file before : List ℕ) (a : Answer) (after : List ℕ) (steps : ℕ) : Type 0 where
   pub tokens : List RowToken
   pub tree : Nodes
   pub accepted-as : AcceptedAs file a after tokens tree steps
-  pub defined : outcome file (length before) ≡ passes (accepted tree steps)
+  pub defined : o ≡ passes (accepted tree steps)
   pub whole : after ≡ filled (length before) (records tree)
+
+-- Every accepted file has a row and a tree, and "its tree is the one that demand 2's definition gives".
+abbrev pub HasTree : (file before : List ℕ) (a : Answer) (after : List ℕ) (steps : ℕ) → Type 0
+HasTree file before a after steps = TreeOf (outcome file (length before)) file before a after steps
 
 -- "Its tree is the one that demand 2's definition gives".
 abbrev pub TreeDefined : (file before : List ℕ) → Answer → (after : List ℕ) → Type 0

@@ -71,7 +71,7 @@ fn check_nodes(
 }
 
 // The answer to a row, from what its reading came to.
-fn check_tree(head: Head, kinds: &[u8], words: &[u8], tree: &[u32], parsed: Parsed) -> Answer
+pub fn check_tree(head: Head, kinds: &[u8], words: &[u8], tree: &[u32], parsed: Parsed) -> Answer
     requires { ⌜ CheckReady (now kinds) (now words) (head .allowance) parsed (now tree) ⌝ }
     ensures { λ r. ⌜ CheckSays head (now (kinds .entry)) (now (words .entry)) parsed (now (tree .entry)) r ⌝ }
 {

@@ -22,9 +22,9 @@ use Rattle.reader.specs.Nodes.{NodeKind, T-node, G-node, B-node, L-node, A-node
 use Rattle.reader.specs.Reading.{Region, top, round, square, argument, list, Fault, Next, ends, stops, token, angle, first, Got, got, bad, case, before, is-angle-close, starts, next, kindAt, MAX-NESTING-DEPTH, Reader, down, argued, go, turn, readF, read, reading}
 use Rattle.reader.specs.Reading as Old
 use Rattle.reader.specs.Tables.{node-of, region-of}
-use Rattle.reader.specs.Derivation.{Stops, at-half, at-one, at-two, at-comma, Derivation, end-argument, a-token, a-group, a-list}
+use Rattle.reader.specs.Derivation.{Stops, at-half, at-one, at-two, at-comma, Derivation}
 use Rattle.reader.specs.Laws.Tokens.{KindsKnown, taken}
-use Rattle.reader.specs.Laws.Derived.{neqb, all-lists, Sound, readF-sound, row-derived}
+use Rattle.reader.specs.Laws.Derived.{neqb, all-lists, Sound, readF-sound, row-derived, stopped}
 use Rattle.reader.specs.Laws.Bounds.{nothing-left}
 use Rattle.reader.specs.Laws.Loops.{_then_}
 use Rattle.reader.specs.Laws.NodeNumbers.{In, here, beside, below}
@@ -258,12 +258,6 @@ module _ (row : List ℕ) (named : List Bool) (no-shift : (i : ℕ) → kindAt r
         λ e. absurd (q e),
       )
 
-  stops-there : {d n a a′ : ℕ} {h h′ : Bool} {x : Nodes} → Derivation row all-lists argument d n a h x a′ h′ → Stops row d a′ h′
-  stops-there (end-argument s) = s
-  stops-there (a-token t p r) = stops-there r
-  stops-there (a-group t lim op e r₁ r) = stops-there r
-  stops-there (a-list t lim e r₁ r) = stops-there r
-
   -- A turn keeps it.
   module _ (read : Reader true row) (ok : (l : Region) (d n : ℕ) (w : Bool) (a : ℕ) (h : Bool) → Sound row l d n a h (read l d n w a h))
       (rec : (l : Region) (d n : ℕ) (w : Bool) (a : ℕ) → WordAt w a → Goes-as l n a (read l d n w a false)) where
@@ -358,7 +352,7 @@ module _ (row : List ℕ) (named : List Bool) (no-shift : (i : ℕ) → kindAt r
 
     -- An argument that ends without a comma ends at a `>`.
     closes-at : {d n a a₁ : ℕ} {h₁ : Bool} {x : Nodes} → Derivation row all-lists argument d n a false x a₁ h₁ → h₁ ≡ false → kindAt row a₁ ≢ Comma → kindAt row a₁ ≡ Greater
-    closes-at {a₁ = a₁} r q c = by (stops-there r) q
+    closes-at {a₁ = a₁} r q c = by (stopped row r) q
       where
         by : {d : ℕ} {h : Bool} → Stops row d a₁ h → h ≡ false → kindAt row a₁ ≡ Greater
         by at-half q = absurd (true≢false q)

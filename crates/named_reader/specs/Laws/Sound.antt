@@ -1,7 +1,7 @@
 -- What this reading accepts is derived (crate reader, specs/Derivation.antt), with no list around a group to be closed inside it: so what is proved of
 -- derivations holds of its trees.
 -- Assumes nothing.
-use Prim.Native.Nat.{ℕ, suc, _-_, _≤_, _<_}
+use Prim.Native.Nat.{ℕ, suc, _+_, _-_, _≤_, _<_}
 use mathlib.Core.Path.{_≡_, refl, sym, ap, _∙_, subst}
 use mathlib.Core.Logic.{_≢_}
 use mathlib.Core.Bool.{Bool, false, _&&_}
@@ -303,3 +303,30 @@ module _ (row : List ℕ) where
       where
         by : Rest [] none 0 false x → RowDerived row no-lists x
         by (rest-top {a′ = a′} {h′ = h′} r e) = record { fewer = λ d. omega arith; at = a′; half = h′; derivation = subst (λ (y : Nodes). Derivation row no-lists top 0 0 0 false y a′ h′) e r }
+
+-- ---- a tree is read to the row's end
+
+abbrev EndsAt : (end : ℕ) → Got → Type 0
+EndsAt end (got x a h m) = (a ≡ end) × (h ≡ false)
+EndsAt end (bad e m) = Unit {0}
+
+module _ (named : List Bool) where
+  end-ends : (at end : ℕ) → at ≡ end → (fs : List Frame) (s : State) → EndsAt end (at-end at fs s)
+  unfolding at-end
+  end-ends at end p [] s = (p, refl)
+  end-ends at end p (Named.group d i x ∷ outer) s = tt
+  end-ends at end p (Named.list i x y j ∷ outer) s = tt
+
+  go-ends : (end : ℕ) (t : Step) (rest : State → Got) → ((s : State) → EndsAt end (rest s)) → EndsAt end (go-on t rest)
+  unfolding go-on
+  go-ends end (on s) rest f = f s
+  go-ends end (stops e m) rest f = tt
+
+  read-ends : (ks : List ℕ) (at end : ℕ) → at + length ks ≡ end → (s : State) → EndsAt end (read-on named at ks s)
+  unfolding read-on
+  read-ends [] at end p s = end-ends at end (omega (arith, p)) (s .frames) s
+  read-ends (k ∷ ks) at end p s = go-ends end (take-token named k at s) (λ s′. read-on named (suc at) ks s′) (λ s′. read-ends ks (suc at) end (omega (arith, p)) s′)
+
+  pub read-whole : (row : List ℕ) {x : Nodes} {a : ℕ} {h : Bool} {m : ℕ} → named-reading named row ≡ got x a h m → (a ≡ length row) × (h ≡ false)
+  unfolding named-reading
+  read-whole row q = subst (EndsAt (length row)) q (read-ends row 0 (length row) (omega arith) start)

@@ -38,7 +38,7 @@ module _ (row : List ℕ) where
   Read = Derivation row all-lists
 
   -- An argument's reading stops where an argument ends.
-  stopped : {d n a a′ : ℕ} {h h′ : Bool} {x : Nodes} → Read argument d n a h x a′ h′ → Stops row d a′ h′
+  pub stopped : {d n a a′ : ℕ} {h h′ : Bool} {x : Nodes} → Read argument d n a h x a′ h′ → Stops row d a′ h′
   stopped (end-argument s) = s
   stopped (a-token t p r) = stopped r
   stopped (a-group t lim op e r₁ r) = stopped r

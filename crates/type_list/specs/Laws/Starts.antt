@@ -1,26 +1,25 @@
 -- Where a tree begins: its first node is the T of token 0, and no other node has that token. Assumes nothing.
-use Prim.Native.Nat.{ℕ, zero, suc, _+_, _*_, _-_, _≤_, _<_}
-use mathlib.Core.Path.{_≡_, refl, sym, ap, _∙_, subst}
+use Prim.Native.Nat.{ℕ, suc, _-_, _≤_, _<_}
+use mathlib.Core.Path.{_≡_, refl, sym, subst}
 use mathlib.Core.Logic.{_⊎_, inl, inr, ⊎-elim, _↔_}
-use mathlib.Core.Bool.{Bool, true, false, not, _&&_, _||_}
-use mathlib.Core.List.{List, [], _∷_, _++_}
+use mathlib.Core.Bool.{Bool, false, not, _&&_, _||_}
+use mathlib.Core.List.{List, [], _∷_}
 use native.Mathlib.Omega.{arith}
 use native.Mathlib.Decide.{decLe}
 use native.Mathlib.Nat.{lt-of-not-le}
 use mir.Facts.{and-yes, or-yes}
-use lib.ListN.{length, getD, List·getD-append}
-use lib.Seq.{getD-append-add}
+use lib.ListN.{length, getD}
 use lib.Dec.{T, eqb, eqb→eq}
-use Rattle.rows.specs.Kinds.{Identifier, Scope, LeftParen, LeftBracket, Less, NoToken}
+use Rattle.rows.specs.Kinds.{Identifier, Scope, NoToken}
 use Rattle.rows.specs.Languages.{Cpp}
 use Rattle.rows.specs.Notation.{_is-one-of_}
 use Rattle.rows.specs.Laws.Tests.{by-if}
 use Rattle.prescan.specs.Matcher.{Opener}
 use Rattle.prescan.specs.Prescan.{Scan, Scanned, passed, refused, start, scan, valid-start, valid-end, row-end, at-row-end, prescan}
-use Rattle.reader.specs.Nodes.{NodeKind, T-node, A-node, Nodes, none, node, number, count, node-width, records, kind-of, token-of}
+use Rattle.reader.specs.Nodes.{NodeKind, T-node, Nodes, none, node, number, count, records, kind-of, token-of}
 use Rattle.reader.specs.Reading.{Region, top, kindAt}
-use Rattle.reader.specs.Derivation.{Opens, parens, brackets, Closes, by-half, by-one, by-two, Derivation, end-row, end-group, end-argument, a-token, a-group, a-list, last, more}
-use Rattle.reader.specs.Laws.Derived.{derived}
+use Rattle.reader.specs.Derivation.{parens, brackets, Closes, by-half, by-one, by-two, Derivation, RowDerived, end-row, end-group, end-argument, a-token, a-group, a-list, last, more}
+use Rattle.reader.specs.Laws.Derived.{row-derived}
 use Rattle.reader.specs.Laws.NodeNumbers.{In, here, beside, below, place, numbered, says}
 use Rattle.type_name.specs.Laws.AcceptedRow.{RowRead}
 
@@ -108,10 +107,14 @@ first-kind : (k : ℕ) → T (valid-start k) → (k ≡ Identifier) ⊎ (k ≡ S
 unfolding valid-start _is-one-of_
 first-kind k t = ⊎-elim (λ u. inl (eqb→eq k Identifier u)) (λ v. ⊎-elim (λ u. inr (eqb→eq k Scope u)) (λ u. absurd u) (or-yes (eqb k Scope) false v)) (or-yes (eqb k Identifier) (eqb k Scope || false) t)
 
-pub read-starts : (language : ℕ) (kinds : List ℕ) {x : Nodes} {m : ℕ} → RowRead language kinds x m → Starts x
+-- A tree of such a row, however it was read,
+pub derived-starts : (language : ℕ) (kinds : List ℕ) {inner : ℕ → ℕ} {x : Nodes} (s : Scan) → prescan language kinds ≡ passed s → RowDerived kinds inner x → Starts x
 unfolding kindAt
-read-starts language kinds r =
-    top-starts kinds (derived kinds (eqb language Cpp) (r .reads)) (first-kind _ (subst (Begun language kinds) (r .scanned) (prescan-begun language kinds)))
+derived-starts language kinds s scanned d = top-starts kinds (d .derivation) (first-kind _ (subst (Begun language kinds) scanned (prescan-begun language kinds)))
+
+-- and by document 01's reading.
+pub read-starts : (language : ℕ) (kinds : List ℕ) {x : Nodes} {m : ℕ} → RowRead language kinds x m → Starts x
+read-starts language kinds r = derived-starts language kinds (r .scan) (r .scanned) (row-derived kinds (eqb language Cpp) (r .reads))
 
 -- ---- by the node records
 

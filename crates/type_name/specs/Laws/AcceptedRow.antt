@@ -1,7 +1,7 @@
 -- What an accepted answer comes of, place by place, and that it comes back under a later standard and any allowance not below its steps.
 -- Assumes nothing.
 use Prim.Native.Nat.{ℕ, _+_, _≤_}
-use mathlib.Core.Path.{_≡_, refl, ap, subst}
+use mathlib.Core.Path.{_≡_, refl, subst}
 use mathlib.Core.Bool.{Bool, true, false}
 use mathlib.Core.List.{List}
 use borrow.Author.Tests.{le-leb}
@@ -23,44 +23,48 @@ use Rattle.profile.specs.Profile.{missing-feature}
 use Rattle.profile.specs.Laws.Monotone.{nothing-missing-later}
 use Rattle.profile.specs.declared.profile.Lack.{Lack}
 use Rattle.profile.specs.declared.profile.Lack.the-variants.{Nothing, Lacks}
-use Rattle.type_name.specs.FileRow.{HeadRow, Outcome, untouched, passes, on-pass, file-row}
+use Rattle.type_name.specs.FileRow.{HeadRow, Outcome, untouched, passes, on-pass, file-row, entry-outcome}
 use Rattle.type_name.specs.Answers.{RowAnswer, accepted, refused, on-tree, whole-row, tree-of, after-prescan, row-tree, structure-of, by-structure, by-profile, tree-checked, unlimited, row-steps, answer-within, answerOf, row-answer, outcome}
 use Rattle.type_name.specs.Laws.FileRow.{Has, Comes, file-comes}
 
 -- ---- a row's tree
 
--- The row was read to this tree in these steps.
-pub record RowRead (language : ℕ) (kinds : List ℕ) (x : Nodes) (steps : ℕ) : Type 0 where
+-- A reading of the row came to this tree in these steps, and the prescan passes the row.
+pub record ReadTo (language : ℕ) (kinds : List ℕ) (g : Got) (x : Nodes) (steps : ℕ) : Type 0 where
   pub scan : Scan
   pub scanned : prescan language kinds ≡ passed scan
   pub at : ℕ
   pub half : Bool
-  pub reads : reading (eqb language Cpp) kinds ≡ got x at half steps
+  pub reads : g ≡ got x at half steps
   pub whole : whole-row kinds at half ≡ true
 
-module _ (language : ℕ) (kinds : List ℕ) where
+module _ (language : ℕ) (kinds : List ℕ) (g : Got) where
   abbrev TreeComes : RowAnswer → Type 0
-  TreeComes (accepted x m) = RowRead language kinds x m
+  TreeComes (accepted x m) = ReadTo language kinds g x m
   TreeComes (refused e m) = Unit {0}
 
-  by-whole : (s : Scan) → prescan language kinds ≡ passed s → (x : Nodes) (at : ℕ) (half : Bool) (m : ℕ) → reading (eqb language Cpp) kinds ≡ got x at half m
-      → (b : Bool) → whole-row kinds at half ≡ b → TreeComes (if b then accepted x m else refused UnexpectedTokenAfterTypeName m)
+  by-whole : (s : Scan) → prescan language kinds ≡ passed s → (x : Nodes) (at : ℕ) (half : Bool) (m : ℕ) → g ≡ got x at half m → (b : Bool) → whole-row kinds at half ≡ b
+      → TreeComes (if b then accepted x m else refused UnexpectedTokenAfterTypeName m)
   by-whole s p x at half m e true w = record { scan = s; scanned = p; at = at; half = half; reads = e; whole = w }
   by-whole s p x at half m e false w = tt
 
-  reading-comes : (s : Scan) → prescan language kinds ≡ passed s → (g : Got) → reading (eqb language Cpp) kinds ≡ g → TreeComes (tree-of kinds g)
+  reading-comes : (s : Scan) → prescan language kinds ≡ passed s → (d : Got) → g ≡ d → TreeComes (tree-of kinds d)
   unfolding tree-of
   reading-comes s p (bad f m) e = tt
   reading-comes s p (got x at half m) e = by-whole s p x at half m e (whole-row kinds at half) refl
 
-  prescan-comes : (r : Scanned) → prescan language kinds ≡ r → TreeComes (after-prescan language kinds r)
+  prescan-comes : (r : Scanned) → prescan language kinds ≡ r → TreeComes (after-prescan kinds g r)
   unfolding after-prescan
   prescan-comes (Prescan.refused e) q = tt
-  prescan-comes (passed s) q = reading-comes s q (reading (eqb language Cpp) kinds) refl
+  prescan-comes (passed s) q = reading-comes s q g refl
 
-  tree-comes : TreeComes (row-tree language kinds)
-  unfolding row-tree
-  tree-comes = prescan-comes (prescan language kinds) refl
+  -- How an accepted tree was read.
+  pub tree-read : {x : Nodes} {m : ℕ} → after-prescan kinds g (prescan language kinds) ≡ accepted x m → ReadTo language kinds g x m
+  tree-read e = subst TreeComes e (prescan-comes (prescan language kinds) refl)
+
+-- The same by the reading of document 01.
+abbrev pub RowRead : (language : ℕ) (kinds : List ℕ) (x : Nodes) (steps : ℕ) → Type 0
+RowRead language kinds x steps = ReadTo language kinds (reading (eqb language Cpp) kinds) x steps
 
 -- ---- its checks
 
@@ -79,7 +83,8 @@ RowAccepted language standard flag kinds words x steps = CheckedAs (row-tree lan
 
 -- How its tree was read.
 pub accepted-read : (language standard flag : ℕ) (kinds words : List ℕ) {x : Nodes} {steps : ℕ} (r : RowAccepted language standard flag kinds words x steps) → RowRead language kinds x (r .reading-steps)
-accepted-read language standard flag kinds words r = subst (TreeComes language kinds) (r .is-read) (tree-comes language kinds)
+unfolding row-tree
+accepted-read language standard flag kinds words r = tree-read language kinds (reading (eqb language Cpp) kinds) (r .is-read)
 
 module _ (o : RowAnswer) (language standard flag : ℕ) (kinds words : List ℕ) where
   abbrev pub CheckedComes : RowAnswer → Type 0
@@ -135,32 +140,51 @@ row-stable language standard standard′ flag kinds words allowance x steps r la
 
 -- ---- a file
 
--- The file was accepted with this row and this tree after these steps.
+-- The file was accepted with this row and this tree after these steps, by an entry that answers so to its head and row.
+pub record AcceptedBy (answers : HeadRow → RowAnswer) (file : List ℕ) (ts : List RowToken) (x : Nodes) (steps : ℕ) : Type 0 where
+  pub head-of : Head
+  pub formed : head format file ≡ FileHead.Formed head-of
+  pub row-is : records-from format file most-tokens head-length ≡ row ts
+  pub answers-so : answers (record { the-head = head-of; tokens = ts }) ≡ accepted x steps
+
+module _ (answers : HeadRow → RowAnswer) (file : List ℕ) (room : ℕ) where
+  abbrev Accepts : Outcome RowAnswer → Type 0
+  Accepts (untouched e) = Unit {0}
+  Accepts (passes (accepted x m)) = (ts : List RowToken) × AcceptedBy answers file ts x m
+  Accepts (passes (refused e m)) = Unit {0}
+
+  answer-accepts : (r : HeadRow) → Has file room r → (a : RowAnswer) → answers r ≡ a → Accepts (passes a)
+  answer-accepts r h (accepted x m) q = (r .tokens, record { head-of = r .the-head; formed = h .formed; row-is = h .row-is; answers-so = q })
+  answer-accepts r h (refused f m) q = tt
+
+  row-accepts : (o : Outcome HeadRow) → Comes file room o → Accepts (on-pass o λ r. passes (answers r))
+  unfolding on-pass
+  row-accepts (untouched e) c = tt
+  row-accepts (passes r) c = answer-accepts r c (answers r) refl
+
+  -- Every accepted outcome of a file comes of its row.
+  pub accepted-by : (x : Nodes) (m : ℕ) → entry-outcome format answers file room ≡ passes (accepted x m) → (ts : List RowToken) × AcceptedBy answers file ts x m
+  accepted-by x m e = subst Accepts e (row-accepts (file-row format file room) (file-comes file room))
+
+-- The same by the entry of document 01.
 pub record FileAccepted (file : List ℕ) (ts : List RowToken) (x : Nodes) (steps : ℕ) : Type 0 where
   pub head-of : Head
   pub formed : head format file ≡ FileHead.Formed head-of
   pub row-is : records-from format file most-tokens head-length ≡ row ts
   pub row-accepted : RowAccepted (head-of .language) (head-of .standard) (head-of .flag) (kinds-of ts) (words-of ts) x steps
 
-abbrev Accepts : (file : List ℕ) → Outcome RowAnswer → Type 0
-Accepts file (untouched e) = Unit {0}
-Accepts file (passes (accepted x m)) = (ts : List RowToken) × FileAccepted file ts x m
-Accepts file (passes (refused e m)) = Unit {0}
+pub file-accepted : (file : List ℕ) (ts : List RowToken) (x : Nodes) (steps : ℕ) → AcceptedBy row-answer file ts x steps → FileAccepted file ts x steps
+unfolding row-answer
+file-accepted file ts x steps b =
+    let h : Head = b .head-of in
+    record {
+      head-of = h;
+      formed = b .formed;
+      row-is = b .row-is;
+      row-accepted = subst (RowComes (h .language) (h .standard) (h .flag) (kinds-of ts) (words-of ts)) (b .answers-so)
+          (row-comes (h .language) (h .standard) (h .flag) (kinds-of ts) (words-of ts) (h .allowance));
+    }
 
-module _ (file : List ℕ) (room : ℕ) where
-  answer-accepts : (r : HeadRow) → Has file room r
-      → (a : RowAnswer) → RowComes (r .the-head .language) (r .the-head .standard) (r .the-head .flag) (kinds-of (r .tokens)) (words-of (r .tokens)) a → Accepts file (passes a)
-  answer-accepts r h (accepted x m) c = (r .tokens, record { head-of = r .the-head; formed = h .formed; row-is = h .row-is; row-accepted = c })
-  answer-accepts r h (refused f m) c = tt
-
-  row-accepts : (o : Outcome HeadRow) → Comes file room o → Accepts file (on-pass o λ r. passes (row-answer r))
-  unfolding on-pass row-answer
-  row-accepts (untouched e) c = tt
-  row-accepts (passes r) c =
-      answer-accepts r c (row-answer r)
-      (row-comes (r .the-head .language) (r .the-head .standard) (r .the-head .flag) (kinds-of (r .tokens)) (words-of (r .tokens)) (r .the-head .allowance))
-
-  -- Every accepted outcome of a file comes of its row.
-  pub accepted-file : (x : Nodes) (m : ℕ) → outcome file room ≡ passes (accepted x m) → (ts : List RowToken) × FileAccepted file ts x m
-  unfolding outcome
-  accepted-file x m e = subst (Accepts file) e (row-accepts (file-row format file room) (file-comes file room))
+pub accepted-file : (file : List ℕ) (room : ℕ) (x : Nodes) (m : ℕ) → outcome file room ≡ passes (accepted x m) → (ts : List RowToken) × FileAccepted file ts x m
+unfolding outcome
+accepted-file file room x m e = let f = accepted-by row-answer file room x m e in (f .0, file-accepted file (f .0) x m (f .1))

@@ -310,15 +310,25 @@ module _ (al : ℕ) (kinds : List ℕ) (g : Got) {inner : ℕ → ℕ} (sound : 
   pub parsed-tree : {r : Parsed} {tree : List ℕ} → Parses kinds al g r tree → TreeSays kinds al (tree-of kinds g) r tree
   parsed-tree {r} {tree} h = record { says = says-by r tree (h .says) }
 
+-- ---- the tree of a row behind the prescan
+
+module _ (l al : ℕ) (kinds : List ℕ) (g : Got) where
+  pub tree-refused : {e : TypeNameError} {tree : List ℕ} → prescan l kinds ≡ Prescan.refused e → TreeSays kinds al (after-prescan kinds g (prescan l kinds)) (R.Refused e 0) tree
+  unfolding after-prescan
+  tree-refused q = record { says = (omega arith, ap (after-prescan kinds g) q) }
+
+  pub tree-parsed : {inner : ℕ → ℕ} → GotDerived kinds inner g → (t : Scan) × (prescan l kinds ≡ passed t) → {r : Parsed} {tree : List ℕ} → Parses kinds al g r tree
+      → TreeSays kinds al (after-prescan kinds g (prescan l kinds)) r tree
+  unfolding after-prescan
+  tree-parsed sound t {r} {tree} h = subst (λ (o : RowAnswer). TreeSays kinds al o r tree) (sym (ap (after-prescan kinds g) (t .1))) (parsed-tree al kinds g sound h)
+
 -- ---- the tree of a row, by document 01's reading
 
 module _ (l al : ℕ) (kinds : List ℕ) where
-  pub tree-refused : {e : TypeNameError} {tree : List ℕ} → prescan l kinds ≡ Prescan.refused e → TreeSays kinds al (row-tree l kinds) (R.Refused e 0) tree
-  unfolding row-tree after-prescan
-  tree-refused q = record { says = (omega arith, ap (after-prescan l kinds) q) }
+  pub row-tree-refused : {e : TypeNameError} {tree : List ℕ} → prescan l kinds ≡ Prescan.refused e → TreeSays kinds al (row-tree l kinds) (R.Refused e 0) tree
+  unfolding row-tree
+  row-tree-refused q = tree-refused l al kinds (reading (eqb l Cpp) kinds) q
 
-  pub tree-parsed : (t : Scan) × (prescan l kinds ≡ passed t) → {r : Parsed} {tree : List ℕ} → Parses kinds al (reading (eqb l Cpp) kinds) r tree → TreeSays kinds al (row-tree l kinds) r tree
-  unfolding row-tree after-prescan
-  tree-parsed t {r} {tree} h =
-      subst (λ (o : RowAnswer). TreeSays kinds al o r tree) (sym (ap (after-prescan l kinds) (t .1)))
-      (parsed-tree al kinds (reading (eqb l Cpp) kinds) (λ x a k m e. row-derived kinds (eqb l Cpp) e) h)
+  pub row-tree-parsed : (t : Scan) × (prescan l kinds ≡ passed t) → {r : Parsed} {tree : List ℕ} → Parses kinds al (reading (eqb l Cpp) kinds) r tree → TreeSays kinds al (row-tree l kinds) r tree
+  unfolding row-tree
+  row-tree-parsed t h = tree-parsed l al kinds (reading (eqb l Cpp) kinds) (λ x a k m e. row-derived kinds (eqb l Cpp) e) t h

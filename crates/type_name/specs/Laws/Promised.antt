@@ -28,11 +28,11 @@ use Rattle.reader.specs.Laws.Openers.{one-G-each, one-B-each}
 use Rattle.reader.specs.Laws.Groups.{partner, below-each}
 use Rattle.reader.specs.Laws.WrittenOut.{kinds-in, closing-angles-as-often, else-same, same-throughout}
 use Rattle.type_name.specs.AnswerNumbers.{answer-numbers}
-use Rattle.type_name.specs.FileRow.{Outcome, untouched, passes}
-use Rattle.type_name.specs.Answers.{RowAnswer, accepted, refused, outcome, answer-in, answer, filled, buffer-in, final-buffer}
-use Rattle.type_name.specs.Promises.{Answered, Buffered, AcceptedAs, TreeDefined, BracketsOf, tokens-in, WrittenAs, Promised}
+use Rattle.type_name.specs.FileRow.{HeadRow, Outcome, untouched, passes, entry-outcome}
+use Rattle.type_name.specs.Answers.{RowAnswer, accepted, refused, row-answer, outcome, answer-in, answer, filled, buffer-in, final-buffer}
+use Rattle.type_name.specs.Promises.{Answered, Buffered, AcceptedAs, TreeOf, BracketsOf, tokens-in, WrittenAs, Promised}
 use Rattle.type_name.specs.Laws.Fields.{is-refused, nodes-in, steps-in, one-row}
-use Rattle.type_name.specs.Laws.AcceptedRow.{RowRead, RowAccepted, FileAccepted, accepted-read, accepted-file}
+use Rattle.type_name.specs.Laws.AcceptedRow.{RowRead, RowAccepted, AcceptedBy, accepted-by, FileAccepted, file-accepted, accepted-read}
 use Rattle.type_name.specs.Laws.RowTokens.{kinds-known, worded, same-kinds}
 use Rattle.type_name.specs.Laws.Stable.{comes-back}
 
@@ -49,13 +49,15 @@ front : (room : ℕ) (x : Nodes) → take (length (records x)) (filled room (rec
 unfolding filled
 front room x = take-append-seam (records x) _
 
-module _ (file before : List ℕ) (a : Answer) (after : List ℕ) (answered : Answered file before a) (buffered : Buffered file before after) where
-  tree-defined : TreeDefined file before a after
-  unfolding answer final-buffer buffer-in
+-- Whatever an entry answers to a head and a row, and leaves in the buffer for it.
+module _ (answers : HeadRow → RowAnswer) (file before : List ℕ) (a : Answer) (after : List ℕ)
+    (answered : a ≡ answer-in (entry-outcome format answers file (length before))) (buffered : after ≡ buffer-in before (entry-outcome format answers file (length before))) where
+  pub tree-defined : (nodes steps : ℕ) → a ≡ Accepted nodes steps → TreeOf (entry-outcome format answers file (length before)) file before a after steps
+  unfolding buffer-in
   tree-defined nodes steps q =
-      let t = from-answer (outcome file (length before)) nodes steps (sym answered ∙ q) in
+      let t = from-answer (entry-outcome format answers file (length before)) nodes steps (sym answered ∙ q) in
       let w : after ≡ filled (length before) (records (t .0)) = buffered ∙ ap (buffer-in before) (t .1) in
-      let f = accepted-file file (length before) (t .0) steps (t .1) in
+      let f = accepted-by answers file (length before) (t .0) steps (t .1) in
       record {
         tokens = f .0;
         tree = t .0;
@@ -69,16 +71,17 @@ module _ (file before : List ℕ) (a : Answer) (after : List ℕ) (answered : An
       }
 
   -- The tree that stands in front of the buffer is the one that the definition gives, of the row that the file holds.
-  held-tree : (ts : List RowToken) (x : Nodes) (steps : ℕ) → AcceptedAs file a after ts x steps → FileAccepted file ts x steps
+  pub held-tree : (ts : List RowToken) (x : Nodes) (steps : ℕ) → AcceptedAs file a after ts x steps → AcceptedBy answers file ts x steps
   held-tree ts x steps p =
       let t = tree-defined (count x) steps (p .answered) in
       let y = t .tree in
       let nodes : count x ≡ count y = ap nodes-in (sym (p .answered) ∙ t .accepted-as .answered) in
       let long : length (records x) ≡ length (records y) = omega (arith, three-each x, three-each y, nodes) in
       let same : records y ≡ records x = sym (t .accepted-as .tree-held) ∙ ap (λ (k : ℕ). take k after) (sym long) ∙ p .tree-held in
-      let is-read : outcome file (length before) ≡ passes (accepted x steps) = t .defined ∙ ap (λ (z : Nodes). passes (accepted z steps)) (records-injective y x same) in
-      let f = accepted-file file (length before) x steps is-read in
-      subst (λ (us : List RowToken). FileAccepted file us x steps) (one-row _ (f .0) ts (f .1 .row-is) (p .row-read)) (f .1)
+      let is-read : entry-outcome format answers file (length before) ≡ passes (accepted x steps) =
+      t .defined ∙ ap (λ (z : Nodes). passes (accepted z steps)) (records-injective y x same) in
+      let f = accepted-by answers file (length before) x steps is-read in
+      subst (λ (us : List RowToken). AcceptedBy answers file us x steps) (one-row _ (f .0) ts (f .1 .row-is) (p .row-read)) (f .1)
 
 -- ---- what holds of the tree of a row, however it was read
 
@@ -136,13 +139,15 @@ module _ (file : List ℕ) (ts : List RowToken) (x : Nodes) (steps : ℕ) (f : F
   of-row law = law (f .head-of .language) (f .head-of .standard) (f .head-of .flag) (good-row format file most-tokens head-length ts (f .row-is)) (f .row-accepted)
 
 pub promised : (file before : List ℕ) (a : Answer) (after : List ℕ) → Answered file before a → Buffered file before after → Promised file before a after
+unfolding answer final-buffer outcome
 promised file before a after answered buffered =
-    let held = held-tree file before a after answered buffered in
+    let held : (ts : List RowToken) (x : Nodes) (steps : ℕ) → AcceptedAs file a after ts x steps → FileAccepted file ts x steps =
+    λ ts x steps p. file-accepted file ts x steps (held-tree row-answer file before a after answered buffered ts x steps p) in
     record {
       answered = answered;
       numbered = ap answer-numbers answered;
       buffered = buffered;
-      tree-defined = tree-defined file before a after answered buffered;
+      tree-defined = tree-defined row-answer file before a after answered buffered;
       nested = λ ts x steps p. of-row file ts x steps (held ts x steps p) (λ l s f. nested l s f ts x steps);
       brackets-paired = λ ts x steps p. of-row file ts x steps (held ts x steps p) (λ l s f. brackets l s f ts x steps);
       written-out = λ ts x steps p. of-row file ts x steps (held ts x steps p) (λ l s f. written-as l s f ts x steps);

@@ -17,9 +17,9 @@ use Rattle.rows.specs.declared.head.Meaning.{Meaning}
 use Rattle.rows.specs.declared.head.Meaning.the-variants.{Means, Unknown}
 use Rattle.rows.specs.declared.head.FileHead.{FileHead}
 use Rattle.rows.specs.declared.head.FileHead.the-variants.{Formed, Refused}
-use Rattle.reader.specs.Nodes.{Nodes, numbers-per-token, count, records}
-use Rattle.type_name.specs.FileRow.{passes, on-pass}
-use Rattle.type_name.specs.Answers.{accepted, answerOf, row-answer, outcome, answer-in, answer, filled, buffer-in, final-buffer}
+use Rattle.reader.specs.Nodes.{Nodes, count, records}
+use Rattle.type_name.specs.FileRow.{HeadRow, passes, on-pass, entry-outcome}
+use Rattle.type_name.specs.Answers.{RowAnswer, accepted, row-answer, outcome, answer-in, answer, filled, buffer-in, final-buffer}
 use Rattle.type_name.specs.Promises.{NotBelow}
 use Rattle.type_name.specs.Laws.Fields.{one-head}
 use Rattle.type_name.specs.Laws.FileRow.{row-fits}
@@ -54,15 +54,22 @@ module _ (file : List ℕ) where
 
 -- ---- the other file's outcome
 
-module _ (file file′ before′ : List ℕ) (ts : List RowToken) (x : Nodes) (steps : ℕ) (f : FileAccepted file ts x steps) (n : NotBelow file file′ before′ ts steps) where
-  same-row : records-from format file′ most-tokens head-length ≡ row ts
-  same-row =
-      let long : head-length ≤ length file = formed-long file (n .head-of) (n .formed) in
-      let long′ : head-length ≤ length file′ = formed-long file′ (n .head-of′) (n .formed′) in
-      let same : length file′ ≡ length file = omega (arith, long, long′, length-drop head-length file, length-drop head-length file′, ap length (n .same-records)) in
-      records-same format file file′ head-length (n .same-records) same most-tokens head-length (omega arith) ∙ f .row-is
+-- An entry that answers the other head alike answers the other file alike.
+pub outcome-again : (answers : HeadRow → RowAnswer) (file file′ before′ : List ℕ) (ts : List RowToken) (x : Nodes) (steps : ℕ) → records-from format file most-tokens head-length ≡ row ts
+    → (n : NotBelow file file′ before′ ts steps) → answers (record { the-head = n .head-of′; tokens = ts }) ≡ accepted x steps
+    → entry-outcome format answers file′ (length before′) ≡ passes (accepted x steps)
+unfolding on-pass
+outcome-again answers file file′ before′ ts x steps is-row n alike =
+    let long : head-length ≤ length file = formed-long file (n .head-of) (n .formed) in
+    let long′ : head-length ≤ length file′ = formed-long file′ (n .head-of′) (n .formed′) in
+    let same : length file′ ≡ length file = omega (arith, long, long′, length-drop head-length file, length-drop head-length file′, ap length (n .same-records)) in
+    let same-row : records-from format file′ most-tokens head-length ≡ row ts =
+    records-same format file file′ head-length (n .same-records) same most-tokens head-length (omega arith) ∙ is-row in
+    rw (row-fits file′ (length before′) (n .head-of′) (n .formed′) same-row refl (n .room), alike) refl
 
-  same-answer : answerOf (n .head-of′ .language) (n .head-of′ .standard) (n .head-of′ .flag) (kinds-of ts) (words-of ts) (n .head-of′ .allowance) ≡ accepted x steps
+module _ (file file′ before′ : List ℕ) (ts : List RowToken) (x : Nodes) (steps : ℕ) (f : FileAccepted file ts x steps) (n : NotBelow file file′ before′ ts steps) where
+  same-answer : row-answer (record { the-head = n .head-of′; tokens = ts }) ≡ accepted x steps
+  unfolding row-answer
   same-answer =
       let r : RowAccepted (n .head-of .language) (n .head-of .standard) (n .head-of .flag) (kinds-of ts) (words-of ts) x steps =
       subst (λ (h : Head). RowAccepted (h .language) (h .standard) (h .flag) (kinds-of ts) (words-of ts) x steps)
@@ -71,10 +78,8 @@ module _ (file file′ before′ : List ℕ) (ts : List RowToken) (x : Nodes) (s
       (row-stable (n .head-of .language) (n .head-of .standard) (n .head-of′ .standard) (n .head-of .flag) (kinds-of ts) (words-of ts) (n .head-of′ .allowance) x steps r
       (n .same-or-later) (n .enough))
 
-  same-outcome : outcome file′ (length before′) ≡ passes (accepted x steps)
-  unfolding outcome on-pass row-answer
-  same-outcome = rw (row-fits file′ (length before′) (n .head-of′) (n .formed′) same-row refl (n .room), same-answer) refl
-
   pub comes-back : (answer file′ (length before′) ≡ Accepted (count x) steps) × (final-buffer file′ before′ ≡ filled (length before′) (records x))
-  unfolding answer answer-in final-buffer buffer-in
-  comes-back = (ap answer-in same-outcome, ap (buffer-in before′) same-outcome)
+  unfolding answer answer-in final-buffer buffer-in outcome
+  comes-back =
+      let again : outcome file′ (length before′) ≡ passes (accepted x steps) = outcome-again row-answer file file′ before′ ts x steps (f .row-is) n same-answer in
+      (ap answer-in again, ap (buffer-in before′) again)

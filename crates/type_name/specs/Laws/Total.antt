@@ -2,12 +2,12 @@
 -- (That there is one answer is in the types: `answer` and `final-buffer` are functions of the file and the buffer, defined everywhere.)
 -- Assumes nothing.
 use Prim.Native.Nat.{ℕ, _-_, _≤_}
-use mathlib.Core.Path.{_≡_, refl, ap}
+use mathlib.Core.Path.{_≡_, ap}
 use mathlib.Core.Logic.{_⊎_, inl, inr}
 use mathlib.Core.List.{List, [], _∷_}
 use native.Mathlib.Omega.{arith}
-use lib.ListN.{length, replicate}
-use lib.Dec.{T, leb, eqb}
+use lib.ListN.{length}
+use lib.Dec.{T, eqb}
 use Rattle.rows.specs.Notation.{_is-one-of_}
 use Rattle.rows.specs.Languages.{Cpp}
 use Rattle.rows.specs.Format.{format}
@@ -22,17 +22,13 @@ use Rattle.prescan.specs.Prescan.{Scan, Scanned, passed, prescan}
 use Rattle.prescan.specs.Prescan
 use Rattle.prescan.specs.Laws.Numbered.{prescan-numbered}
 use Rattle.prescan.specs.Laws.Numbered
-use Rattle.reader.specs.Nodes.{Nodes}
 use Rattle.reader.specs.Reading.{Got, got, bad, Fault, refusal, no-list, reading}
 use Rattle.reader.specs.Laws.Numbered.{FaultNumbered, reading-numbered}
 use Rattle.reader.specs.Laws.Numbered as Read
-use Rattle.structure.specs.Said.{Said, holds, fails}
-use Rattle.profile.specs.Profile.{missing-feature}
-use Rattle.profile.specs.declared.profile.Lack.{Lack}
-use Rattle.profile.specs.declared.profile.Lack.the-variants.{Nothing, Lacks}
 use Rattle.type_name.specs.FileRow.{HeadRow, Outcome, untouched, passes, on-pass, file-row}
-use Rattle.type_name.specs.Answers.{RowAnswer, accepted, refused, on-tree, refusal-of, whole-row, tree-of, after-prescan, row-tree, structure-of, by-structure, by-profile, tree-checked, unlimited, row-steps, answer-within, answerOf, row-answer, outcome, answer-in, answer, filled, buffer-in, final-buffer}
+use Rattle.type_name.specs.Answers.{RowAnswer, accepted, refused, refusal-of, whole-row, tree-of, after-prescan, row-tree, tree-checked, unlimited, answer-within, answerOf, row-answer, outcome, answer-in, answer, final-buffer}
 use Rattle.type_name.specs.Promises.{RefusedBuffer}
+use Rattle.type_name.specs.Laws.Refusals.{Refusals, checked-refusals, limited-refusals, Apart, buffer-of}
 use Rattle.type_name.specs.Laws.Fields.{is-refused, number-in, bounds, wider}
 use Rattle.type_name.specs.Laws.FileRow.{Comes, file-comes}
 
@@ -77,13 +73,11 @@ listed EmptyOrUnclosedList = tt
 
 -- A refusal with this number or a greater one, up to 40.
 abbrev pub PlacedFrom : (low : ℕ) → RowAnswer → Type 0
-PlacedFrom low (accepted x m) = Unit {0}
-PlacedFrom low (refused e m) = Between low 40 e
+PlacedFrom low = Refusals (λ e. Between low 40 e)
 
 -- The same without 25: of an answer under an allowance that suffices.
 abbrev pub UnspentFrom : (low : ℕ) → RowAnswer → Type 0
-UnspentFrom low (accepted x m) = Unit {0}
-UnspentFrom low (refused e m) = Between low 23 e ⊎ Between 30 40 e
+UnspentFrom low = Refusals (λ e. Between low 23 e ⊎ Between 30 40 e)
 
 -- Of a row: from 10 on.
 abbrev pub RowPlaced : RowAnswer → Type 0
@@ -107,9 +101,7 @@ module _ (low : ℕ) (l : low ≤ 20) where
   unspent-placed (refused e m) p = in-table e p
 
   limited-placed : (allowance : ℕ) (a : RowAnswer) → UnspentFrom low a → PlacedFrom low (answer-within allowance a)
-  unfolding answer-within
-  limited-placed allowance a p =
-      by-if (PlacedFrom low) (leb (row-steps a) allowance) (λ _. unspent-placed a p) (λ _. wider 25 25 low 40 (omega (arith, l)) (omega arith) AllowancePassed tt)
+  limited-placed allowance a p = limited-refusals (λ e. Between low 40 e) (wider 25 25 low 40 (omega (arith, l)) (omega arith) AllowancePassed tt) allowance a (unspent-placed a p)
 
   fault-unspent : (e : Fault) (m : ℕ) → FaultNumbered e → UnspentFrom low (refused (refusal-of e) m)
   unfolding refusal-of
@@ -122,28 +114,11 @@ module _ (low : ℕ) (l : low ≤ 20) where
   tree-unspent kinds (got x at half m) p =
       by-if (UnspentFrom low) (whole-row kinds at half) (λ _. tt) (λ _. inl (wider 23 23 low 23 (omega (arith, l)) (omega arith) UnexpectedTokenAfterTypeName tt))
 
-  structure-unspent : (x : Nodes) (m : ℕ) (s : Said) → UnspentFrom low (by-structure x m s)
-  unfolding by-structure
-  structure-unspent x m (holds n) = tt
-  structure-unspent x m (fails n) = inr tt
-
-  profile-unspent : (x : Nodes) (m : ℕ) (k : Lack) → UnspentFrom low (by-profile x m k)
-  unfolding by-profile
-  profile-unspent x m Nothing = tt
-  profile-unspent x m (Lacks f) = inr tt
-
-  next-unspent : (a : RowAnswer) (next : Nodes → ℕ → RowAnswer) → UnspentFrom low a → ((x : Nodes) (m : ℕ) → UnspentFrom low (next x m)) → UnspentFrom low (on-tree a next)
-  unfolding on-tree
-  next-unspent (accepted x m) next p q = q x m
-  next-unspent (refused e m) next p q = p
-
   checked-unspent : (language standard flag : ℕ) (kinds words : List ℕ) (a : RowAnswer) → UnspentFrom low a → UnspentFrom low (tree-checked language standard flag kinds words a)
-  unfolding tree-checked
-  checked-unspent language standard flag kinds words a p =
-      next-unspent _ _ (next-unspent a _ p (λ x m. structure-unspent x m (structure-of language flag kinds words x))) (λ x m. profile-unspent x m (missing-feature language standard kinds words))
+  checked-unspent = checked-refusals (λ e. Between low 23 e ⊎ Between 30 40 e) (inr tt) (λ f. inr tt)
 
 module _ (language standard flag : ℕ) (kinds words : List ℕ) where
-  prescan-unspent : (r : Scanned) → Numbered.Numbered r → Unspent (after-prescan language kinds r)
+  prescan-unspent : (r : Scanned) → Numbered.Numbered r → Unspent (after-prescan kinds (reading (eqb language Cpp) kinds) r)
   unfolding after-prescan
   prescan-unspent (Prescan.refused e) p = inl (wider 10 18 10 23 (omega arith) (omega arith) e p)
   prescan-unspent (passed s) p = tree-unspent 10 (omega arith) kinds (reading (eqb language Cpp) kinds) (reading-numbered (eqb language Cpp) kinds)
@@ -177,26 +152,14 @@ outcome-placed file room = read-placed file room (file-row format file room) (fi
 
 -- ---- the buffer of a refused answer
 
-none-less : (n : ℕ) → replicate {A = ℕ} (n - 0) 0 ≡ replicate n 0
-none-less n =
-    let same : n - 0 ≡ n = omega arith in
-    ap (λ (k : ℕ). replicate {A = ℕ} k 0) same
-
-buffer-of : (before : List ℕ) (o : Outcome RowAnswer) → Placed o → (e : TypeNameError) (m : ℕ) → answer-in o ≡ Refused e m → RefusedBuffer before (buffer-in before o) e
-unfolding answer-in buffer-in filled
-buffer-of before (untouched e′) p e m q =
-    let same : refusalOf e′ .number ≡ refusalOf e .number = ap number-in q in
-    record { kept = λ _. refl; zeroed = λ h. absurd (omega (arith, same, bounds 1 6 e′ p, h)) }
-buffer-of before (passes (accepted x n)) p e m q =
-    let clash : _≡_ {A = ℕ} 0 1 = ap is-refused q in
-    absurd (omega (arith, clash))
-buffer-of before (passes (refused e′ n)) p e m q =
-    let same : refusalOf e′ .number ≡ refusalOf e .number = ap number-in q in
-    record { kept = λ h. absurd (omega (arith, same, bounds 10 40 e′ p, h)); zeroed = λ _. none-less (length before) }
+apart : (o : Outcome RowAnswer) → Placed o → Apart o
+apart (untouched e) p = p
+apart (passes (accepted x m)) p = tt
+apart (passes (refused e m)) p = omega (arith, bounds 10 40 e p)
 
 pub refused-buffer : (file before : List ℕ) (e : TypeNameError) (m : ℕ) → answer file (length before) ≡ Refused e m → RefusedBuffer before (final-buffer file before) e
 unfolding answer final-buffer
-refused-buffer file before e m q = buffer-of before (outcome file (length before)) (outcome-placed file (length before)) e m q
+refused-buffer file before e m q = buffer-of before (outcome file (length before)) (apart (outcome file (length before)) (outcome-placed file (length before))) e m q
 
 -- ---- which numbers this entry gives
 

@@ -1,7 +1,7 @@
 -- `read_tree` meets its contract. Assumes nothing.
 use native.Mathlib.Omega.{arith}
 use borrow.Author.Needs.{needs}
-use Rattle.type_name.specs.Laws.Entry.{scan-refused, scan-passed, tree-refused, tree-parsed}
+use Rattle.type_name.specs.Laws.Entry.{scan-refused, scan-passed, row-tree-refused, row-tree-parsed}
 use borrow.Author.Needs.{needs}
 use Rattle.type_name.proofs.tree.read_tree.Statement.{statement}
 use Rattle.type_name.proofs.tree.read_tree.Tie as tie
@@ -20,7 +20,7 @@ same-length : tie.Need-same-length
 same-length c = search needs
 
 returns : tie.Need-returns
-returns c = tree-refused (c .before .before .before .before .before .before .before .before .before .args .language) (c .before .before .before .before .before .before .before .before .before .args .allowance) (c .before .before .before .before .before .before .before .before .before .args .kinds .now) (scan-refused (c .before .scanned .given .1) (c .before .before .before .before .before .prescan-row .ensures))
+returns c = row-tree-refused (c .before .before .before .before .before .before .before .before .before .args .language) (c .before .before .before .before .before .before .before .before .before .args .allowance) (c .before .before .before .before .before .before .before .before .before .args .kinds .now) (scan-refused (c .before .scanned .given .1) (c .before .before .before .before .before .prescan-row .ensures))
 
 enum-told : tie.Need-enum-told
 enum-told c = search needs
@@ -32,7 +32,7 @@ same-length-2 : tie.Need-same-length-2
 same-length-2 c = search needs
 
 returns-2 : tie.Need-returns-2
-returns-2 c = tree-parsed (c .before .before .before .before .before .before .before .before .before .before .before .before .args .language) (c .before .before .before .before .before .before .before .before .before .before .before .before .args .allowance) (c .before .before .before .before .before .before .before .before .before .before .before .before .args .kinds .now) (scan-passed (c .before .before .before .before .enum-told .given .1) (c .before .before .before .before .before .before .before .before .prescan-row .ensures)) (c .before .before .parse .ensures)
+returns-2 c = row-tree-parsed (c .before .before .before .before .before .before .before .before .before .before .before .before .args .language) (c .before .before .before .before .before .before .before .before .before .before .before .before .args .allowance) (c .before .before .before .before .before .before .before .before .before .before .before .before .args .kinds .now) (scan-passed (c .before .before .before .before .enum-told .given .1) (c .before .before .before .before .before .before .before .before .prescan-row .ensures)) (c .before .before .parse .ensures)
 
 pub read-tree-spec : {M : Type 1} → statement M
 read-tree-spec =
