@@ -19,6 +19,7 @@ use Rattle.type_name.specs.Answers.{RowAnswer, accepted, refused, row-answer, o
 use Rattle.rule_answers.specs.MatchAnswers.{matched, row-match, match-outcome}
 use Rattle.type_list.specs.ListAnswers.{row-parts-answer, list-outcome}
 use Rattle.type_list.specs.ListAnswers
+use Rattle.named_answers.specs.NamedAnswers.{named-answer, named-outcome}
 
 -- The format that every entry read before: 255 meant "C18, Cpp17 and Fortran2018", and 254 was unknown.
 abbrev pub former-format : Format
@@ -40,6 +41,8 @@ pub record AcceptedNow (file : List ℕ) (room : ℕ) : Type 0 where
       → match-outcome file rules room ≡ passes (matched x steps place)
   pub lists : (xs : List Nodes) (steps : ℕ) → entry-outcome former-format row-parts-answer file room ≡ passes (ListAnswers.accepted xs steps)
       → list-outcome file room ≡ passes (ListAnswers.accepted xs steps)
+  pub named : (names : List ℕ) (x : Nodes) (steps : ℕ) → entry-outcome former-format (named-answer names) file room ≡ passes (accepted x steps)
+      → named-outcome file names room ≡ passes (accepted x steps)
 
 -- "40 feature": what a row is answered whose standard lacks something.
 abbrev pub Is-40 : RowAnswer → Type 0

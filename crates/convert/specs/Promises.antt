@@ -12,6 +12,7 @@ use Rattle.type_name.specs.FileRow.{passes, file-row, entry-outcome}
 use Rattle.type_name.specs.Answers.{row-answer, answer-in, answer, buffer-in, final-buffer}
 use Rattle.rule_answers.specs.MatchAnswers.{row-match, match-in, match-answer, match-buffer-in, match-buffer}
 use Rattle.type_list.specs.ListAnswers.{row-parts-answer, list-answer-in, list-answer, list-buffer-in, list-buffer}
+use Rattle.named_answers.specs.NamedAnswers.{named-answer, answer-named, buffer-named}
 use Rattle.convert.specs.Standards.{returned-standard}
 use Rattle.convert.specs.Fields.{TokenFields, Fields, fields-of, file-bytes}
 use Rattle.convert.specs.Conversions.{numbers-32, widened}
@@ -30,9 +31,12 @@ pub record StillRead (f : Format) (old new : List ℕ) : Type 0 where
   -- `type_name_match`,
   pub matched : (rules : List ℕ) (room : ℕ) → match-answer new rules room ≡ match-in (entry-outcome f (row-match rules) old room)
   pub matched-tree : (rules before : List ℕ) → match-buffer new rules before ≡ match-buffer-in before (entry-outcome f (row-match rules) old (length before))
-  -- and `type_name_read_list`.
+  -- `type_name_read_list`,
   pub listed : (room : ℕ) → list-answer new room ≡ list-answer-in (entry-outcome f row-parts-answer old room)
   pub listed-trees : (before : List ℕ) → list-buffer new before ≡ list-buffer-in before (entry-outcome f row-parts-answer old (length before))
+  -- and `type_name_read_named` with the same name list.
+  pub named : (names : List ℕ) (room : ℕ) → answer-named new names room ≡ answer-in (entry-outcome f (named-answer names) old room)
+  pub named-tree : (names before : List ℕ) → buffer-named new names before ≡ buffer-in before (entry-outcome f (named-answer names) old (length before))
 
 -- "The inverse gives that file back": the fields of a file that was narrowed and is widened again, one by one.
 pub record FieldsBack (c back : Fields) : Type 0 where

@@ -3,6 +3,7 @@
 pub mod conversion;
 pub mod list;
 pub mod matching;
+pub mod named;
 pub mod numbers;
 pub mod overlap;
 pub mod read;

@@ -1,4 +1,5 @@
 pub mod ReadTrees
+pub mod NamedTrees
 pub mod Words
 pub mod Walk
 pub mod Lists

@@ -4,13 +4,14 @@ use Prim.Native.Nat.{ℕ}
 use mathlib.Core.Path.{_≡_}
 use mathlib.Core.Logic.{_≢_}
 use mathlib.Core.List.{List, _∷_, _++_}
-use lib.ListN.{getD}
+use lib.ListN.{length, getD}
 use Rattle.rows.specs.Records.{kinds-of}
 use Rattle.rows.specs.declared.answer.Answer.{Answer}
 use Rattle.reader.specs.Nodes.{L-node, Nodes, number, records}
 use Rattle.type_name.specs.Answers.{accepted, answerOf, filled}
-use Rattle.type_name.specs.Promises.{HasTree}
+use Rattle.type_name.specs.Promises.{TreeOf, HasTree}
 use Rattle.type_list.specs.ListPromises.{PartTree, AcceptedList}
+use Rattle.named_answers.specs.NamedAnswers.{named-outcome}
 use Rattle.outer.specs.Formed.{TreeFormed}
 use Rattle.outer.specs.OuterTemplate.{outer-arguments}
 use Rattle.outer.specs.ByExtents.{outer-by-extents}
@@ -55,6 +56,15 @@ read-buffer t = Buffers.read-buffer t
 -- and that buffer cut to the tree or anywhere behind it.
 pub cut-buffer : {file before after : List ℕ} {a : Answer} {steps : ℕ} (t : HasTree file before a after steps) (room : ℕ) → outer-by-extents (filled room (records (t .tree))) ≡ outer-arguments (kinds-of (t .tokens)) (t .tree)
 cut-buffer t room = Buffers.cut-buffer t room
+
+-- The same of what `type_name_read_named` leaves.
+pub named-buffer : (names : List ℕ) {file before after : List ℕ} {a : Answer} {steps : ℕ} (t : TreeOf (named-outcome file names (length before)) file before a after steps)
+    → outer-by-extents after ≡ outer-arguments (kinds-of (t .tokens)) (t .tree)
+named-buffer names t = Buffers.named-buffer names t
+
+pub cut-named-buffer : (names : List ℕ) {file before after : List ℕ} {a : Answer} {steps : ℕ} (t : TreeOf (named-outcome file names (length before)) file before a after steps) (room : ℕ)
+    → outer-by-extents (filled room (records (t .tree))) ≡ outer-arguments (kinds-of (t .tokens)) (t .tree)
+cut-named-buffer names t room = Buffers.cut-named-buffer names t room
 
 -- The buffer that `type_name_read_list` leaves: the first part's tree is counted.
 pub first-part : {file before after : List ℕ} {parts nodes steps : ℕ} (l : AcceptedList file before after parts nodes steps) (p : PartTree) (ps : List PartTree)

@@ -27,7 +27,8 @@ use Rattle.convert.specs.Laws.Standards.{returned-same}
 use Rattle.convert.specs.Laws.Reads.{refused-not}
 use Rattle.convert.specs.Laws.Sizes.{file-long}
 use Rattle.convert.specs.Laws.Entries.{sound-long, sound-few, sound-language, sound-standard}
-use Rattle.convert.specs.Laws.SameAnswers.{same-read, same-match, same-list, same-outcome}
+use Rattle.convert.specs.Laws.SameAnswers.{same-read, same-match, same-list, same-named, same-outcome}
+use Rattle.named_answers.specs.NamedAnswers.{named-answer, named-outcome, answer-named, buffer-named}
 use Rattle.convert.specs.Laws.Promised.{its-meaning, narrowed-back, same-file, standard-back, fields-returned, meaning-returned, returned-long, returned-bytes, old-fields, widened-row, returned-row}
 
 -- ---- which files are converted, and how long they get
@@ -97,7 +98,7 @@ narrowed-length file q =
 -- ---- "A converted file gets the answer and tree its old file would get if still read"
 
 same-answers : (f : Format) (file new : List ℕ) → ((room : ℕ) → Alike (file-row format new room) (file-row f file room)) → StillRead f file new
-unfolding outcome answer final-buffer match-outcome match-answer match-buffer list-outcome list-answer list-buffer
+unfolding outcome answer final-buffer match-outcome match-answer match-buffer list-outcome list-answer list-buffer named-outcome answer-named buffer-named
 same-answers f file new same =
     record {
       same-row = same;
@@ -107,6 +108,8 @@ same-answers f file new same =
       matched-tree = λ rules before. ap (match-buffer-in before) (same-outcome (row-match rules) (same-match rules) (file-row format new (length before)) (file-row f file (length before)) (same (length before)));
       listed = λ room. ap list-answer-in (same-outcome row-parts-answer same-list (file-row format new room) (file-row f file room) (same room));
       listed-trees = λ before. ap (list-buffer-in before) (same-outcome row-parts-answer same-list (file-row format new (length before)) (file-row f file (length before)) (same (length before)));
+      named = λ names room. ap answer-in (same-outcome (named-answer names) (same-named names) (file-row format new room) (file-row f file room) (same room));
+      named-tree = λ names before. ap (buffer-in before) (same-outcome (named-answer names) (same-named names) (file-row format new (length before)) (file-row f file (length before)) (same (length before)));
     }
 
 pub still-read : (file : List ℕ) {new : List ℕ} → AllBytes file → widened file ≡ passes new → StillRead old-format file new

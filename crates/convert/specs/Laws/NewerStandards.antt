@@ -35,6 +35,8 @@ use Rattle.rules.specs.RuleTable.{table-of}
 use Rattle.rule_answers.specs.MatchAnswers.{row-match, match-outcome}
 use Rattle.type_list.specs.Parts.{parts}
 use Rattle.type_list.specs.ListAnswers.{row-parts-answer, list-outcome}
+use Rattle.named_answers.specs.NamedAnswers.{named-answer, named-outcome}
+use Rattle.named_answers.specs.Laws.NamedRow.{named-accepted, named-later, steps-allowed}
 use Rattle.convert.specs.Bytes.{AllBytes}
 use Rattle.convert.specs.Promises.{Exactly-if}
 use Rattle.convert.specs.NewerStandards.{former-format, AcceptedNow, Passes-1-2, NoSuchProfile}
@@ -197,7 +199,7 @@ module _ (file : List ℕ) where
       rw (n .is, on-pass) (ap passes (later (w .head-row) (n .now) (n .later) (w .answered)))
 
   pub accepted-now : (room : ℕ) → AcceptedNow file room
-  unfolding outcome row-answer match-outcome row-match list-outcome row-parts-answer
+  unfolding outcome row-answer match-outcome row-match list-outcome row-parts-answer named-outcome
   accepted-now room =
       record {
         read = λ x steps e.
@@ -208,6 +210,9 @@ module _ (file : List ℕ) where
         lists = λ xs steps e.
             by-entry row-parts-answer room _
             (λ r now later q. parts-later (r .the-head .language) (r .the-head .standard) now (r .the-head .flag) later (parts (r .the-head .language) (r .tokens)) (r .the-head .allowance) q) e;
+        named = λ names x steps e.
+            by-entry (named-answer names) room (accepted x steps)
+            (λ r now later q. named-later names (r .the-head) (head-at (r .the-head) now) (r .tokens) (named-accepted names (r .the-head) (r .tokens) q) refl refl later (steps-allowed names (r .the-head) (r .tokens) q)) e;
       }
 
 -- ---- refusal 3

@@ -1,13 +1,16 @@
 -- No entry looks at the places of a row's tokens: the same head and row get the same answer.
 -- Assumes nothing.
 use Prim.Native.Nat.{ℕ, zero, suc, _-_}
-use mathlib.Core.Path.{_≡_, refl, ap}
+use mathlib.Core.Path.{_≡_, refl, ap, _∙_}
 use mathlib.Core.Bool.{Bool, true, false}
 use mathlib.Core.List.{List, [], _∷_}
 use lib.ListN.{length, getD, take, drop}
-use lib.Dec.{ltb}
+use lib.Dec.{eqb, ltb}
 use Rattle.rows.specs.Notation.{if_then_else_}
+use Rattle.rows.specs.Languages.{Cpp}
 use Rattle.rows.specs.Records.{RowToken, kinds-of, words-of}
+use Rattle.rows.specs.declared.head.Head.{Head}
+use Rattle.rows.specs.declared.answer.TypeNameError.the-variants.{InvalidNameList}
 use Rattle.reader.specs.Nodes.{NodeKind, T-node, G-node, B-node, L-node, A-node, Nodes, none, node}
 use Rattle.type_name.specs.FileRow.{HeadRow, Outcome, untouched, passes, on-pass}
 use Rattle.type_name.specs.Answers.{RowAnswer, accepted, refused, answerOf, row-answer}
@@ -17,6 +20,8 @@ use Rattle.rules.specs.RuleTable.{TableFound, no-table, a-table, table-of}
 use Rattle.rule_answers.specs.MatchAnswers.{with-winner, by-table, row-match}
 use Rattle.type_list.specs.Parts.{part-length, parts-in, parts}
 use Rattle.type_list.specs.ListAnswers.{on-part, parts-answer, row-parts-answer}
+use Rattle.names.specs.NameList.{NameList, listed, malformed, name-list, names-marked}
+use Rattle.named_answers.specs.NamedAnswers.{by-names, named-answer}
 use Rattle.convert.specs.SameRow.{SameTokens, SameRow, Alike}
 
 -- ---- tokens
@@ -139,6 +144,27 @@ same-list r r′ s =
     rw (s .same-head, same-many (r .tokens) (r′ .tokens) (s .same-tokens))
     (same-parts-answer (r′ .the-head .language) (r′ .the-head .standard) (r′ .the-head .flag) (parts-in (length (r′ .tokens)) (r′ .the-head .language) (r .tokens)) (parts-in (length (r′ .tokens)) (r′ .the-head .language) (r′ .tokens))
     (same-cut (length (r′ .tokens)) (r′ .the-head .language) (r .tokens) (r′ .tokens) (s .same-tokens)) (r′ .the-head .allowance))
+
+-- ---- `type_name_read_named`
+
+same-marks : (ns : List (List ℕ)) (ts us : List RowToken) → SameTokens ts us → names-marked ns ts ≡ names-marked ns us
+unfolding names-marked
+same-marks ns [] [] s = refl
+same-marks ns [] (u ∷ us) s = absurd s
+same-marks ns (t ∷ ts) [] s = absurd s
+same-marks ns (t ∷ ts) (u ∷ us) s = rw (s .1, same-marks ns ts us (s .2)) refl
+
+same-by-names : (l : NameList) (r r′ : HeadRow) → SameRow r r′ → by-names r l ≡ by-names r′ l
+unfolding by-names
+same-by-names malformed r r′ s = refl
+same-by-names (listed ns) r r′ s =
+    rw (s .same-head, same-marks ns (r .tokens) (r′ .tokens) (s .same-tokens), same-kinds (r .tokens) (r′ .tokens) (s .same-tokens), same-words (r .tokens) (r′ .tokens) (s .same-tokens)) refl
+
+pub same-named : (names : List ℕ) (r r′ : HeadRow) → SameRow r r′ → named-answer names r ≡ named-answer names r′
+unfolding named-answer
+same-named names r r′ s =
+    ap (λ (a : RowAnswer). if eqb (r .the-head .language) Cpp then a else refused InvalidNameList 0) (same-by-names (name-list names) r r′ s)
+    ∙ ap (λ (h : Head). if eqb (h .language) Cpp then by-names r′ (name-list names) else refused InvalidNameList 0) (s .same-head)
 
 -- ---- every entry
 

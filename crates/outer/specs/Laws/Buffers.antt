@@ -10,7 +10,9 @@ use lib.ListN.{length, getD, replicate, length-append, List·getD-append}
 use lib.Seq.{getD-append-add}
 use lib.Dec.{T}
 use mir.Facts.{and-yes}
+use Rattle.rows.specs.Format.{format, head-length, most-tokens}
 use Rattle.rows.specs.Laws.Tests.{by-if}
+use Rattle.rows.specs.Laws.RowFacts.{good-row}
 use Rattle.rows.specs.declared.head.Head.{Head}
 use Rattle.rows.specs.Records.{RowToken, kinds-of, words-of}
 use Rattle.rows.specs.declared.answer.Answer.{Answer}
@@ -18,17 +20,20 @@ use Rattle.reader.specs.Nodes.{NodeKind, T-node, G-node, B-node, L-node, A-node
 use Rattle.reader.specs.Laws.NodeNumbers.{three-each}
 use Rattle.type_nodes.specs.Nodes.{next}
 use Rattle.type_nodes.specs.Stands.{below}
-use Rattle.type_name.specs.Answers.{filled}
-use Rattle.type_name.specs.Promises.{HasTree}
+use Rattle.type_name.specs.FileRow.{Outcome}
+use Rattle.type_name.specs.Answers.{RowAnswer, filled}
+use Rattle.type_name.specs.Promises.{TreeOf, HasTree}
 use Rattle.type_name.specs.Laws.Fields.{one-row}
-use Rattle.type_name.specs.Laws.AcceptedRow.{accepted-file, accepted-read}
+use Rattle.type_name.specs.Laws.AcceptedRow.{accepted-by, accepted-file, accepted-read}
 use Rattle.type_list.specs.ListAnswers.{records-in-all}
 use Rattle.type_list.specs.ListPromises.{PartTree, trees-of, PartRead, EachRead, AcceptedList}
+use Rattle.named_answers.specs.NamedAnswers.{named-answer, named-outcome}
 use Rattle.outer.specs.Formed.{TreeFormed}
 use Rattle.outer.specs.OuterTemplate.{node-numbers, list-first, is-word, word-first, begins-with-list, outer-arguments, argument-nodes}
 use Rattle.outer.specs.ByExtents.{outer-by-extents}
 use Rattle.outer.specs.OuterPromises.{Agrees}
 use Rattle.outer.specs.Laws.ReadTrees.{read-formed, accepted-formed}
+use Rattle.outer.specs.Laws.NamedTrees.{accepted-named-formed}
 use Rattle.outer.specs.Laws.Placed.{numbers-below}
 use Rattle.outer.specs.Laws.Counted.{counted}
 
@@ -90,12 +95,34 @@ has-formed {file} {before} {after} {a} {steps} t =
     subst (λ (ts : List RowToken). TreeFormed (kinds-of ts) (t .tree)) (one-row _ (f .0) (t .tokens) (f .1 .row-is) (t .accepted-as .row-read))
     (read-formed (h .language) (kinds-of (f .0)) (accepted-read (h .language) (h .standard) (h .flag) (kinds-of (f .0)) (words-of (f .0)) r))
 
+-- and so is that of a file read by names.
+has-named-formed : (names : List ℕ) {file before after : List ℕ} {a : Answer} {steps : ℕ} (t : TreeOf (named-outcome file names (length before)) file before a after steps) → TreeFormed (kinds-of (t .tokens)) (t .tree)
+unfolding named-outcome
+has-named-formed names {file} {before} {after} {a} {steps} t =
+    let f = accepted-by (named-answer names) file (length before) (t .tree) steps (t .defined) in
+    subst (λ (ts : List RowToken). TreeFormed (kinds-of ts) (t .tree)) (one-row _ (f .0) (t .tokens) (f .1 .row-is) (t .accepted-as .row-read))
+    (accepted-named-formed names (f .1 .head-of) (f .0) (good-row format file most-tokens head-length (f .0) (f .1 .row-is)) (f .1 .answers-so))
+
+module _ {o : Outcome RowAnswer} {file before after : List ℕ} {a : Answer} {steps : ℕ} (t : TreeOf o file before a after steps) (f : TreeFormed (kinds-of (t .tokens)) (t .tree)) where
+  cut-buffer-of : (room : ℕ) → outer-by-extents (filled room (records (t .tree))) ≡ outer-arguments (kinds-of (t .tokens)) (t .tree)
+  cut-buffer-of room = zeros-behind (kinds-of (t .tokens)) (t .tree) room f
+
+  read-buffer-of : outer-by-extents after ≡ outer-arguments (kinds-of (t .tokens)) (t .tree)
+  read-buffer-of = ap outer-by-extents (t .whole) ∙ cut-buffer-of (length before)
+
 module _ {file before after : List ℕ} {a : Answer} {steps : ℕ} (t : HasTree file before a after steps) where
   pub cut-buffer : (room : ℕ) → outer-by-extents (filled room (records (t .tree))) ≡ outer-arguments (kinds-of (t .tokens)) (t .tree)
-  cut-buffer room = zeros-behind (kinds-of (t .tokens)) (t .tree) room (has-formed t)
+  cut-buffer room = cut-buffer-of t (has-formed t) room
 
   pub read-buffer : outer-by-extents after ≡ outer-arguments (kinds-of (t .tokens)) (t .tree)
-  read-buffer = ap outer-by-extents (t .whole) ∙ cut-buffer (length before)
+  read-buffer = read-buffer-of t (has-formed t)
+
+module _ (names : List ℕ) {file before after : List ℕ} {a : Answer} {steps : ℕ} (t : TreeOf (named-outcome file names (length before)) file before a after steps) where
+  pub cut-named-buffer : (room : ℕ) → outer-by-extents (filled room (records (t .tree))) ≡ outer-arguments (kinds-of (t .tokens)) (t .tree)
+  cut-named-buffer room = cut-buffer-of t (has-named-formed names t) room
+
+  pub named-buffer : outer-by-extents after ≡ outer-arguments (kinds-of (t .tokens)) (t .tree)
+  named-buffer = read-buffer-of t (has-named-formed names t)
 
 -- ---- a list of types
 

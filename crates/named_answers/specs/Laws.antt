@@ -1,0 +1,4 @@
+pub mod Entry
+pub mod NamedRow
+pub mod NamedPromised
+pub mod Beside
