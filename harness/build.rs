@@ -1,6 +1,7 @@
 //! Lays out the original reader for this crate from the folder that
 //! `ROUP_SRC` names. The files are used in place and unchanged; only of
-//! type_name.rs a second copy is made, which counts its steps.
+//! type_name.rs a second copy is made, which counts its steps and opens its
+//! checks and its reading.
 
 use std::path::{Path, PathBuf};
 use std::{env, fs};
@@ -20,6 +21,27 @@ const COUNTED: [&str; 5] = [
     "validate_expression",
 ];
 
+/// Stands behind the counted copy. Document 02's request C-17 reads trees of its
+/// own and has them checked as before; what a row is without lists is read as in
+/// C, where none is tried.
+const OPENED: &str = "
+pub fn check(
+    syntax: &[TypeSyntax],
+    tokens: &[TokenKind],
+    profile: HostLanguageProfile,
+    validate_structure: bool,
+) -> Result<(), TypeNameError> {
+    if validate_structure {
+        validate_structured_syntax(syntax, profile.language())?;
+    }
+    validate_profile_features(tokens, profile)
+}
+
+pub fn read_without_lists(tokens: &[TokenKind]) -> Result<Vec<TypeSyntax>, TypeNameError> {
+    TypeSyntaxParser::new(tokens).parse(HostLanguage::C)
+}
+";
+
 fn main() {
     println!("cargo::rerun-if-env-changed=ROUP_SRC");
     println!("cargo::rerun-if-changed=build.rs");
@@ -34,7 +56,7 @@ fn lay_out() -> Result<(), String> {
     let counted = out.join("counted.rs");
     let type_name = file(&root, TYPE_NAME)?;
     let text = fs::read_to_string(&type_name).map_err(|error| format!("{TYPE_NAME}: {error}"))?;
-    write(&counted, &with_counter(&text)?)?;
+    write(&counted, &(with_counter(&text)? + OPENED))?;
     let modules = format!(
         "{}{}pub mod host {{\n{}{}{}{}{REEXPORTS}}}\n",
         module("source", &file(&root, SOURCE)?),

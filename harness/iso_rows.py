@@ -123,6 +123,10 @@ def row_file(language, standard, flag, found):
     return head(language, standard, flag) + b''.join(record(*token) for token in found)
 
 
+def name_list(words):
+    return b''.join(record(NUMBER['Identifier'], word) for word in words)
+
+
 class Reader:
     """The proved reader, linked into a small program."""
 
@@ -131,9 +135,10 @@ class Reader:
         self.program = os.path.join(self.folder.name, 'reader')
         subprocess.run(['gcc', '-O2', '-std=c11', '-I' + os.path.join(ROOT, 'include'), os.path.join(HERE, 'iso_reader.c'), LIBRARY, '-o', self.program], check=True)
 
-    def answers(self, files):
-        """For each row file: the answer's four numbers, and the tree's if it is accepted."""
-        sent = b''.join(struct.pack('<I', len(file)) + file for file in files)
+    def answers(self, files, lists=None):
+        """For each row file: the answer's four numbers, and the tree's if it is accepted. `lists`: a name list for each, by which
+        it is read; an empty one: read without."""
+        sent = b''.join(struct.pack('<II', len(file), len(names)) + file + names for file, names in zip(files, lists or [b''] * len(files)))
         said = memoryview(subprocess.run([self.program], input=sent, capture_output=True, check=True).stdout).cast('I')
         at, out = 0, []
         for _ in files:

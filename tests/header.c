@@ -430,6 +430,83 @@ static void standards(void)
     }
 }
 
+/* `A` and `~!`, byte for byte: a name list has no head. */
+static const uint8_t two_names[] = {
+    21, 0, 0, 0, 0, 0, 0, 0, 0, 0, 0, 0, 0, 0, 0, 0, 0, 0, 0, 0, 'A',
+    22, 0, 0, 0, 0, 0, 0, 0, 0, 0, 0, 0, 0, 0, 0, 0, 0, 0, 0, 0, '~', '!',
+};
+
+/* With less room what was written before stays, and nothing is written past it. */
+static void name_lists(void)
+{
+    char word[TYPE_NAME_LONGEST_WORD + 1];
+    uint8_t names[ROOM];
+    size_t length, room, i;
+    for (room = 0; room <= sizeof two_names; room++) {
+        memset(names, 0xa5, sizeof names);
+        length = 0;
+        CHECK(type_name_put_name(names, room, &length, "A", 1) == (room >= 21));
+        CHECK(type_name_put_name(names, room, &length, "~!", 2) == (room == sizeof two_names));
+        CHECK(length == (room < 21 ? 0 : room < sizeof two_names ? 21 : sizeof two_names));
+        CHECK(memcmp(names, two_names, length) == 0);
+        for (i = length; i < sizeof names; i++)
+            CHECK(names[i] == 0xa5);
+    }
+    memset(word, 'w', sizeof word);
+    length = 0;
+    CHECK(!type_name_put_name(names, sizeof names, &length, word, TYPE_NAME_LONGEST_WORD + 1) && length == 0);
+    CHECK(!type_name_put_name(names, sizeof names, &length, "", 0) && length == 0);
+    CHECK(!type_name_put_name(names, sizeof names, &length, "a b", 3) && length == 0);
+    CHECK(type_name_put_name(names, sizeof names, &length, word, TYPE_NAME_LONGEST_WORD));
+    CHECK(length == TYPE_NAME_TOKEN_LENGTH + TYPE_NAME_LONGEST_WORD);
+    length = sizeof names + 1;
+    CHECK(!type_name_put_name(names, sizeof names, &length, "A", 1) && length == sizeof names + 1);
+}
+
+/* What comes of a row in which every word is the name `A`; the answer's numbers behind the first. */
+static void reads_named(const char *text, uint32_t number, uint32_t second, uint32_t third, uint32_t fourth)
+{
+    uint8_t file[ROOM];
+    uint32_t tree[TREE_ROOM], answer[TYPE_NAME_ANSWER_LENGTH + 1] = {9, 9, 9, 9, 9};
+    size_t length = build_row(file, sizeof file, text), i;
+    memset(tree, 0xa5, sizeof tree);
+    CHECK(length != 0);
+    CHECK(type_name_read_named(file, length, two_names, sizeof two_names, tree, TREE_ROOM, answer, 5) == number);
+    CHECK(answer[0] == number && answer[1] == second && answer[2] == third && answer[3] == fourth && answer[4] == 9);
+    for (i = number == 0 ? (size_t)TYPE_NAME_NODE_WIDTH * second : 0; i < TREE_ROOM; i++)
+        CHECK(tree[i] == 0);
+}
+
+static void named(void)
+{
+    const uint32_t none = TYPE_NAME_NO_TOKEN;
+    uint8_t file[ROOM], names[ROOM];
+    uint32_t tree[TREE_ROOM], answer[TYPE_NAME_ANSWER_LENGTH];
+    size_t length, names_len = 0;
+    reads_named("A<A<AR", 0, 7, 5, 0);
+    reads_named("A<A,A>", 0, 6, 4, 0);
+    /* `>>` and `,` in brackets, where no list is open: plain tokens. */
+    reads_named("A<(ARA,)>", 0, 8, 7, 0);
+    reads_named("A(A<ARA)", TYPE_NAME_ERROR_SHIFT_WITHOUT_LIST, none, 0, 5);
+    reads_named("A<>", TYPE_NAME_ERROR_EMPTY_OR_UNCLOSED_LIST, none, 0, 2);
+    reads_named("A(A<A)", TYPE_NAME_ERROR_EMPTY_OR_UNCLOSED_LIST, none, 0, 5);
+    reads_named("A<A", TYPE_NAME_ERROR_UNCLOSED_ANGLE, 1, 0, 0);
+    /* A name twice; another language; a buffer that is too short is told before. */
+    length = build_row(file, sizeof file, "A<A>");
+    CHECK(type_name_put_name(names, sizeof names, &names_len, "A", 1));
+    CHECK(type_name_read_named(file, length, names, names_len, tree, TREE_ROOM, answer, 4) == 0);
+    CHECK(type_name_read_named(file, length, names, names_len - 1, tree, TREE_ROOM, answer, 4) ==
+          TYPE_NAME_ERROR_INVALID_NAME_LIST);
+    CHECK(answer[0] == 8 && answer[1] == none && answer[2] == 0 && answer[3] == 0 && tree[0] == 0 && tree[3] == 0);
+    CHECK(type_name_put_name(names, sizeof names, &names_len, "A", 1));
+    CHECK(type_name_read_named(file, length, names, names_len, tree, TREE_ROOM, answer, 4) ==
+          TYPE_NAME_ERROR_INVALID_NAME_LIST);
+    CHECK(type_name_read_named(file, length, names, names_len, tree, 23, answer, 4) == TYPE_NAME_ERROR_SHORT_BUFFER);
+    file[4] = TYPE_NAME_LANGUAGE_C;
+    CHECK(type_name_read_named(file, length, two_names, sizeof two_names, tree, TREE_ROOM, answer, 4) ==
+          TYPE_NAME_ERROR_INVALID_NAME_LIST);
+}
+
 static void no_pointers(void)
 {
     uint32_t answer[TYPE_NAME_ANSWER_LENGTH] = {9, 9, 9, 9};
@@ -440,6 +517,9 @@ static void no_pointers(void)
     CHECK(type_name_overlap_or_null(NULL, 0, 0, 0, NULL, 0, answer, 2) == 0);
     CHECK(answer[0] == 0 && answer[1] == 0 && answer[2] == 9 && answer[3] == 9);
     CHECK(type_name_read_list_or_null(NULL, 0, NULL, 0, NULL, 0) == TYPE_NAME_ERROR_INVALID_HEAD);
+    CHECK(type_name_read_named_or_null(NULL, 0, NULL, 0, NULL, 0, NULL, 0) == TYPE_NAME_ERROR_INVALID_HEAD);
+    CHECK(type_name_read_named_or_null(new_int, TYPE_NAME_HEAD_LENGTH, NULL, 0, NULL, 0, NULL, 0) ==
+          TYPE_NAME_ERROR_INVALID_NAME_LIST);
     CHECK(type_name_widen_or_null(NULL, 0, NULL, 0, NULL, 0) == TYPE_NAME_ERROR_INVALID_HEAD);
     CHECK(type_name_narrow_or_null(NULL, 0, NULL, 0, NULL, 0) == TYPE_NAME_ERROR_INVALID_HEAD);
     CHECK(type_name_widen_or_null(old_int, sizeof old_int, NULL, 0, NULL, 0) == TYPE_NAME_ERROR_SHORT_BUFFER);
@@ -463,6 +543,8 @@ int main(int count, char **arguments)
     outer_templates();
     conversions();
     standards();
+    name_lists();
+    named();
     no_pointers();
     snprintf(version, sizeof version, "%d.%d.%d", TYPE_NAME_VERSION_MAJOR, TYPE_NAME_VERSION_MINOR,
              TYPE_NAME_VERSION_PATCH);

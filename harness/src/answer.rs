@@ -37,6 +37,7 @@ impl Refusal {
     pub const TOO_MANY_RECORDS: u32 = 5;
     pub const SHORT_BUFFER: u32 = 6;
     pub const OFFSET_OVER_32_BITS: u32 = 7;
+    pub const INVALID_NAME_LIST: u32 = 8;
     pub const EMPTY: u32 = 10;
     pub const UNEXPECTED_CLOSING_DELIMITER: u32 = 11;
     pub const UNEXPECTED_ANGLE: u32 = 12;
@@ -51,6 +52,8 @@ impl Refusal {
     pub const MISMATCHED_CLOSING_DELIMITER: u32 = 22;
     pub const UNEXPECTED_TOKEN_AFTER_TYPE_NAME: u32 = 23;
     pub const ALLOWANCE_PASSED: u32 = 25;
+    pub const SHIFT_WITHOUT_LIST: u32 = 26;
+    pub const EMPTY_OR_UNCLOSED_LIST: u32 = 27;
     pub const NO_TYPE_NAME: u32 = 30;
     pub const NOT_AVAILABLE_IN_PROFILE: u32 = 40;
     pub const INVALID_RULE_TABLE: u32 = 50;

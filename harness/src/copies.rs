@@ -29,7 +29,7 @@ pub fn agree(row: &Row) -> Option<bool> {
     outcome.map(|outcome| outcome == unchanged::read(row, profile, &originals(row)))
 }
 
-fn originals(row: &Row) -> Vec<TokenKind> {
+pub(crate) fn originals(row: &Row) -> Vec<TokenKind> {
     let token = |token: &crate::format::Token| token.kind.token(&token.word);
     row.tokens.iter().map(token).collect()
 }
@@ -64,7 +64,7 @@ macro_rules! reading_with {
                 }
             }
 
-            fn refusal(error: Error, tokens: &[TokenKind]) -> Refusal {
+            pub fn refusal(error: Error, tokens: &[TokenKind]) -> Refusal {
                 match error {
                     Error::Empty => Refusal::plain(Refusal::EMPTY),
                     Error::UnexpectedClosingDelimiter { expected, span, .. } => {
@@ -99,6 +99,8 @@ macro_rules! reading_with {
 
 reading_with!(unchanged, type_name);
 reading_with!(counted, counted);
+
+pub(crate) use counted::refusal;
 
 /// A refusal at the token whose number is the span's place.
 fn at(number: u32, span: Span) -> Refusal {

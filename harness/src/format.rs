@@ -211,7 +211,7 @@ impl Token {
     }
 
     /// The token whose record begins the bytes, `None` if that is malformed.
-    fn read(format: Format, bytes: &[u8]) -> Option<Self> {
+    pub fn read(format: Format, bytes: &[u8]) -> Option<Self> {
         let (record, _) = bytes.split_at_checked(format.token_length)?;
         let (&[l0, l1, k0, k1], span) = record.split_first_chunk()?;
         let length = usize::from(u16::from_le_bytes([l0, l1]));

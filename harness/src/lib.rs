@@ -12,7 +12,7 @@
 //! `lists` are models of rule tables and of several types in one row (document
 //! 02, C-11 and C-12) on top of `oracle`, `conversions` is one of the
 //! conversions between formats (C-14, C-16), `outer` one of the outer template
-//! by extents (C-15).
+//! by extents (C-15), `named` one of the reading with named templates (C-17).
 
 pub mod answer;
 pub mod chosen_rows;
@@ -24,6 +24,7 @@ pub mod kind;
 pub mod lexed;
 pub mod listing;
 pub mod lists;
+pub mod named;
 pub mod names;
 pub mod oracle;
 pub mod outer;

@@ -33,7 +33,8 @@ pub fn answer_in(format: Format, file: &[u8], tree: &mut [u32]) -> Answer {
     }
 }
 
-fn write(nodes: &[Node], tree: &mut [u32]) {
+/// Writes the records of a tree's nodes.
+pub(crate) fn write(nodes: &[Node], tree: &mut [u32]) {
     for (node, record) in nodes.iter().zip(tree.chunks_exact_mut(NODE_WIDTH)) {
         record.copy_from_slice(&node.record());
     }

@@ -4,7 +4,8 @@ use core::error::Error;
 use core::fmt;
 
 use crate::limits::{
-    ANSWER_LENGTH, MOST_BYTES, MOST_NESTING, MOST_RULES, MOST_TOKENS, NO_TOKEN, NUMBERS_PER_TOKEN,
+    ANSWER_LENGTH, MOST_BYTES, MOST_NAMES, MOST_NESTING, MOST_RULES, MOST_TOKENS, NO_TOKEN,
+    NUMBERS_PER_TOKEN,
 };
 use crate::numbered::numbered;
 
@@ -95,8 +96,8 @@ impl fmt::Display for Refusal {
 impl Error for Refusal {}
 
 numbered! {
-    /// Why a type name is refused, in the original's names; 1 to 7, 25, 50 and 51 are added, and each reason of its
-    /// `InvalidSyntax` is a case of its own. `docs/FORMAT.md` has the table.
+    /// Why a type name is refused, in the original's names; 1 to 8, 25 to 27, 50 and 51 are added, and each reason
+    /// of its `InvalidSyntax` is a case of its own. `docs/FORMAT.md` has the table.
     #[non_exhaustive]
     TypeNameError {
         /// The file has more than [`MOST_BYTES`] bytes; of conversions: more than
@@ -117,6 +118,9 @@ numbered! {
         ShortBuffer = 6,
         /// A span ends at 2<sup>32</sup> or later, which the old format cannot say. Of [`narrow`](crate::narrow) alone.
         OffsetOver32Bits = 7,
+        /// The language is not C++, or the name list is not of its form: 1 to [`MOST_NAMES`] names, none of them twice. Of
+        /// [`parse_named_type_name`](crate::parse_named_type_name) alone, as are 26 and 27.
+        InvalidNameList = 8,
         /// There is no token.
         Empty = 10,
         /// A `)` or `]` that closes nothing, or not what was opened last.
@@ -137,7 +141,8 @@ numbered! {
         InvalidBoundaryToken = 18,
         /// Groups and lists nest deeper than [`MOST_NESTING`].
         NestingLimitExceeded = 20,
-        /// A list took the closer of a group, which is not closed therefore.
+        /// A list took the closer of a group, which is not closed therefore. Where names are given, neither this comes nor the
+        /// next two.
         UnterminatedGroup = 21,
         /// A list took the closer of a group, and the next one is of the other sort.
         MismatchedClosingDelimiter = 22,
@@ -145,6 +150,10 @@ numbered! {
         UnexpectedTokenAfterTypeName = 23,
         /// One more step would pass the allowance.
         AllowancePassed = 25,
+        /// The first half of a `>>` closes a list, and for the second none is open at that bracket depth.
+        ShiftWithoutList = 26,
+        /// The list of a name is empty, has an empty argument or is not closed.
+        EmptyOrUnclosedList = 27,
         /// The structure check finds no type name.
         NoTypeName = 30,
         /// The standard lacks a feature that the type name uses.
@@ -171,6 +180,10 @@ impl fmt::Display for TypeNameError {
             Self::NestingLimitExceeded => {
                 write!(to, "groups and lists nest deeper than {MOST_NESTING}")
             }
+            Self::InvalidNameList => write!(
+                to,
+                "the language is not C++, or the name list is not one of 1 to {MOST_NAMES} different names"
+            ),
             Self::InvalidRuleTable => write!(
                 to,
                 "the rule table is not of its form, or has more than {MOST_RULES} rules"
@@ -213,6 +226,12 @@ impl TypeNameError {
             }
             Self::UnexpectedTokenAfterTypeName => "tokens are left over",
             Self::AllowancePassed => "reading and checking would pass the allowance",
+            Self::ShiftWithoutList => {
+                "a `>>` closes a list, and its second half finds none to close at that bracket depth"
+            }
+            Self::EmptyOrUnclosedList => {
+                "the list of a name is empty, has an empty argument or is not closed"
+            }
             Self::NoTypeName => "the tokens name no type",
             Self::NotAvailableInProfile => "the standard lacks what the type name uses",
             Self::NoRuleMatches => "no rule of the table matches",
@@ -220,6 +239,7 @@ impl TypeNameError {
             | Self::TooManyRecords
             | Self::ShortBuffer
             | Self::NestingLimitExceeded
+            | Self::InvalidNameList
             | Self::InvalidRuleTable => unreachable!("these hold numbers"),
         }
     }

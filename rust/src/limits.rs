@@ -66,6 +66,9 @@ pub const NO_PART: u32 = 65_535;
 /// How deep groups and lists may nest, else [`NestingLimitExceeded`](crate::TypeNameError::NestingLimitExceeded).
 pub const MOST_NESTING: usize = 64;
 
+/// The most names of a name list, else [`InvalidNameList`](crate::TypeNameError::InvalidNameList).
+pub const MOST_NAMES: usize = 512;
+
 /// The bytes of a rule record, without its items.
 pub const RULE_HEAD_LENGTH: usize = 4;
 

@@ -19,6 +19,32 @@ pub fn type_name_read(file: &[u8], tree: &mut [u32], answer: &mut [u32]) -> u32 
     }
 }
 
+/// The C function that reads a type name of C++ whose template names are given: returns and writes what [`type_name_read`]
+/// does. `names` is a name list, token records without a head.
+///
+/// For those who want the numbers themselves; all others call
+/// [`parse_named_type_name`](crate::parse_named_type_name).
+pub fn type_name_read_named(
+    file: &[u8],
+    names: &[u8],
+    tree: &mut [u32],
+    answer: &mut [u32],
+) -> u32 {
+    // SAFETY: as in `type_name_read`; `file` and `names` may overlap each other, since both are only read.
+    unsafe {
+        c::type_name_read_named(
+            file.as_ptr(),
+            file.len(),
+            names.as_ptr(),
+            names.len(),
+            tree.as_mut_ptr(),
+            tree.len(),
+            answer.as_mut_ptr(),
+            answer.len(),
+        )
+    }
+}
+
 /// The C function that reads a comma list of type names: returns and writes what [`type_name_read`] does, the trees one behind
 /// the other, and a fifth number of the answer's [`LIST_ANSWER_LENGTH`](crate::LIST_ANSWER_LENGTH): how many parts there are,
 /// or which is refused.
@@ -135,6 +161,17 @@ mod c {
         pub fn type_name_read(
             file: *const u8,
             file_len: usize,
+            tree: *mut u32,
+            tree_len: usize,
+            answer: *mut u32,
+            answer_len: usize,
+        ) -> u32;
+
+        pub fn type_name_read_named(
+            file: *const u8,
+            file_len: usize,
+            names: *const u8,
+            names_len: usize,
             tree: *mut u32,
             tree_len: usize,
             answer: *mut u32,

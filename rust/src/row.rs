@@ -5,10 +5,10 @@ use core::error::Error;
 use core::fmt;
 use core::ops::Range;
 
-use crate::limits::{ALLOWANCE_AT, HEAD_KIND, HEAD_LENGTH, LONGEST_WORD, Offset, TOKEN_LENGTH};
+use crate::limits::{ALLOWANCE_AT, HEAD_KIND, HEAD_LENGTH, LONGEST_WORD, Offset};
 use crate::numbered::numbered;
 use crate::profile::HostLanguageProfile;
-use crate::token::{WordFault, checked_word};
+use crate::token::{WordFault, checked_word, write_record};
 use crate::token_kind::TokenKind;
 
 /// An allowance that is ample for real type names. The 5,587 rows of real names that the project is tried with take at most
@@ -90,12 +90,7 @@ impl Row {
         if span.start > span.end {
             return Err(RecordError::SpanReversed);
         }
-        self.bytes
-            .extend(((TOKEN_LENGTH + word.len()) as u16).to_le_bytes());
-        self.bytes.extend((kind.number() as u16).to_le_bytes());
-        self.bytes.extend(span.start.to_le_bytes());
-        self.bytes.extend(span.end.to_le_bytes());
-        self.bytes.extend(word);
+        write_record(kind, word, span, &mut self.bytes);
         Ok(())
     }
 

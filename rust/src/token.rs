@@ -1,5 +1,6 @@
 //! The token records of a row file.
 
+use alloc::vec::Vec;
 use core::ops::Range;
 
 use crate::limits::{
@@ -52,6 +53,15 @@ impl<'a> Tokens<'a> {
         }
     }
 
+    /// Those of token records without a head: of a name list.
+    pub(crate) fn without_head(records: &'a [u8]) -> Self {
+        Self {
+            file: records,
+            offset: 0,
+            number: 0,
+        }
+    }
+
     /// The number of the token that comes next.
     pub(crate) fn next_number(&self) -> u32 {
         self.number
@@ -98,6 +108,16 @@ fn read(bytes: &[u8], number: u32) -> Option<(Token<'_>, usize)> {
         _ => token.word.is_empty(),
     };
     (word_stands && token.start <= token.end).then_some((token, length))
+}
+
+/// Writes a token's record. The word was checked; of all kinds but identifiers it is empty. The span does not end before it
+/// starts.
+pub(crate) fn write_record(kind: TokenKind, word: &[u8], span: Range<Offset>, to: &mut Vec<u8>) {
+    to.extend(((TOKEN_LENGTH + word.len()) as u16).to_le_bytes());
+    to.extend((kind.number() as u16).to_le_bytes());
+    to.extend(span.start.to_le_bytes());
+    to.extend(span.end.to_le_bytes());
+    to.extend(word);
 }
 
 /// Why no record can hold a word.

@@ -5,8 +5,8 @@ mod support;
 
 use support::{checked, row, unchecked};
 use type_name::{
-    ANSWER_LENGTH, HostLanguage, HostLanguageProfile, NO_TOKEN, tree_for, type_name_match,
-    type_name_read, type_name_read_list,
+    ANSWER_LENGTH, HostLanguage, HostLanguageProfile, NO_TOKEN, Names, tree_for, type_name_match,
+    type_name_read, type_name_read_list, type_name_read_named,
 };
 
 /// Where a head has its standard.
@@ -83,6 +83,7 @@ fn a_number_answers_as_the_standard_that_it_means() {
 
 #[test]
 fn every_function_that_reads_knows_both() {
+    let names = Names::new(["A"]).unwrap();
     for (language, ..) in OWN {
         for (standard, number) in [(253, 3), (254, 0), (255, 0)] {
             let file = file(language, standard, "A", true);
@@ -92,6 +93,14 @@ fn every_function_that_reads_knows_both() {
             // A rule of one item, which takes any one node.
             let any = [5, 0, 16, 1, 4];
             assert_eq!(type_name_match(&file, &any, &mut tree, &mut []), number);
+            // Names are for C++ alone: refusal 8.
+            let by_names = if language != HostLanguage::Cpp && number == 0 {
+                8
+            } else {
+                number
+            };
+            let found = type_name_read_named(&file, names.as_bytes(), &mut tree, &mut []);
+            assert_eq!(found, by_names);
         }
     }
 }

@@ -42,7 +42,7 @@ const FOLDER: &str = "--into";
 
 const KNOWN: Known = Known {
     flags: &["--help"],
-    valued: &[OUTPUT, FOLDER],
+    valued: &[&[OUTPUT, FOLDER]],
 };
 
 pub fn widen_command(arguments: &[OsString]) -> Done {

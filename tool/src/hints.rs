@@ -5,8 +5,8 @@ use std::fmt;
 
 use type_name::{
     Conversion, ConversionRefusal, Head, HostLanguage, HostLanguageProfile, Item, ListRefusal,
-    MOST_ITEMS, Node, NodeKind, PartPlace, Refusal, TokenKind, TypeNameError, parse_type_list,
-    parse_type_name, tree_for, widen,
+    MOST_ITEMS, Names, Node, NodeKind, PartPlace, Refusal, TokenKind, TypeNameError,
+    parse_named_type_name, parse_type_list, parse_type_name, tree_for, widen,
 };
 
 use crate::item_text::items_text;
@@ -30,15 +30,17 @@ impl fmt::Display for Hint {
     }
 }
 
-fn plain(sentence: String) -> Option<Hint> {
+pub fn plain(sentence: String) -> Option<Hint> {
     let instead = None;
     Some(Hint { sentence, instead })
 }
 
 /// What a text is read as.
 #[derive(Clone, Copy)]
-enum Reading {
+pub enum Reading<'a> {
     TypeName,
+    /// By the names of its templates.
+    Named(&'a Names),
     List,
 }
 
@@ -53,8 +55,8 @@ pub fn hint(source: &Source, refusal: Refusal) -> Option<Hint> {
 fn text_hint(text: &Text, refusal: Refusal) -> Option<Hint> {
     match refusal.error {
         TypeNameError::AllowancePassed => greater_allowance(),
-        TypeNameError::TopLevelComma if rewritten(text).is_none() => alone(text),
-        _ => rewritten(text).or_else(|| other_profile(text, Reading::TypeName)),
+        TypeNameError::TopLevelComma if rewritten(text, Reading::TypeName).is_none() => alone(text),
+        _ => rewritten(text, Reading::TypeName).or_else(|| other_profile(text, Reading::TypeName)),
     }
 }
 
@@ -66,7 +68,7 @@ pub fn list_hint(source: &Source, refused: &ListRefusal) -> Option<Hint> {
     }
 }
 
-fn file_hint(file: &[u8], refusal: Refusal) -> Option<Hint> {
+pub fn file_hint(file: &[u8], refusal: Refusal) -> Option<Hint> {
     if refusal.error == TypeNameError::InvalidHead && is_old(file) {
         return plain("the file is in the old format; `type-name widen` brings it over".into());
     }
@@ -100,11 +102,11 @@ fn list_text_hint(text: &Text, refused: &ListRefusal) -> Option<Hint> {
         return greater_allowance();
     }
     let part = refused.part.and_then(|part| text_of(text, part));
-    let rewritten = part.and_then(|part| rewritten(&part));
+    let rewritten = part.and_then(|part| rewritten(&part, Reading::TypeName));
     rewritten.or_else(|| other_profile(text, Reading::List))
 }
 
-fn greater_allowance() -> Option<Hint> {
+pub fn greater_allowance() -> Option<Hint> {
     plain(format!(
         "--allowance takes a number up to {}; a step takes some 15 ns",
         u32::MAX
@@ -115,10 +117,12 @@ fn greater_allowance() -> Option<Hint> {
 fn alone(text: &Text) -> Option<Hint> {
     let instead = match is_accepted(&text.text, text.head, Reading::List) {
         true => "a type name is read alone; `type-name read --list` accepts this as a list of them",
-        false => "a type name is read alone, without those beside it",
+        false => ALONE,
     };
     plain(instead.to_owned())
 }
+
+pub const ALONE: &str = "a type name is read alone, without those beside it";
 
 /// A part of a list by itself.
 fn text_of(list: &Text, part: PartPlace) -> Option<Text> {
@@ -156,11 +160,13 @@ fn of_node<'a>(node: &Node<'a>) -> Item<'a> {
     }
 }
 
-/// A rule of `rewrites` whose text is accepted.
-fn rewritten(text: &Text) -> Option<Hint> {
-    RULES.iter().find_map(|rule| {
+/// A rule of `rewrites` whose text is accepted. Where names are given, no list is tried.
+pub fn rewritten(text: &Text, reading: Reading) -> Option<Hint> {
+    let tries = !matches!(reading, Reading::Named(_));
+    let mut rules = RULES.iter().filter(|rule| tries || !rule.is_about_tries);
+    rules.find_map(|rule| {
         let instead = rewrites::apply(rule, text)?;
-        is_accepted(&instead, text.head, Reading::TypeName).then(|| Hint {
+        is_accepted(&instead, text.head, reading).then(|| Hint {
             sentence: rule.sentence.to_owned(),
             instead: rule.is_same_type.then_some(instead),
         })
@@ -168,7 +174,7 @@ fn rewritten(text: &Text) -> Option<Hint> {
 }
 
 /// The first later standard of the language that accepts the text.
-fn later_standard(text: &Text, reading: Reading) -> Option<Hint> {
+pub fn later_standard(text: &Text, reading: Reading) -> Option<Hint> {
     let now = text.head.profile;
     let mut later = HostLanguageProfile::all().filter(|profile| {
         profile.language() == now.language() && profile.standard() > now.standard()
@@ -211,6 +217,7 @@ fn is_accepted(text: &str, head: Head, reading: Reading) -> bool {
     let mut buffer = tree_for(row.bytes());
     match reading {
         Reading::TypeName => parse_type_name(row.bytes(), &mut buffer).is_ok(),
+        Reading::Named(names) => parse_named_type_name(row.bytes(), names, &mut buffer).is_ok(),
         Reading::List => parse_type_list(row.bytes(), &mut buffer).is_ok(),
     }
 }

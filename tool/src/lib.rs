@@ -14,6 +14,8 @@ mod item_text;
 mod json;
 mod listing;
 mod matching;
+mod named_hints;
+mod names;
 mod options;
 mod outer;
 mod overlaps;

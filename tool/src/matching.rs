@@ -24,7 +24,7 @@ Exit status: 0 a rule wins, 1 the type name is refused or no rule matches (refus
 
 const KNOWN: Known = Known {
     flags: &["--no-structure", "--json", "--help"],
-    valued: &input::VALUED,
+    valued: &[&input::VALUED],
 };
 
 pub fn command(arguments: &[OsString]) -> Done {

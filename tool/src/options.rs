@@ -8,8 +8,8 @@ use crate::cli::Wrong;
 pub struct Known {
     /// Those without a value.
     pub flags: &'static [&'static str],
-    /// Those with a value.
-    pub valued: &'static [&'static str],
+    /// Those with a value, in groups.
+    pub valued: &'static [&'static [&'static str]],
 }
 
 /// The words of one call, each option at most once.
@@ -33,7 +33,7 @@ impl<'a> Options<'a> {
                 return Err(Wrong(format!("{name} is given twice")));
             } else if known.flags.contains(&name) {
                 options.flags.push(name);
-            } else if known.valued.contains(&name) {
+            } else if known.valued.iter().any(|some| some.contains(&name)) {
                 let value = rest.next();
                 let value = value.ok_or(Wrong(format!("{name} needs a value")))?;
                 options.values.push((name, value));

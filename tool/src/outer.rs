@@ -23,7 +23,7 @@ Exit status: 0 accepted, with an outer template or without; 1 refused; 2 wrong u
 
 const KNOWN: Known = Known {
     flags: &["--no-structure", "--json", "--help"],
-    valued: &input::VALUED,
+    valued: &[&input::VALUED],
 };
 
 pub fn command(arguments: &[OsString]) -> Done {

@@ -2,17 +2,22 @@
 
 use std::ffi::OsString;
 
-use type_name::{ListRefusal, Refusal, Tree, TypeList, parse_type_list, parse_type_name, tree_for};
+use type_name::{
+    ListRefusal, Names, Refusal, Tree, TypeList, parse_named_type_name, parse_type_list,
+    parse_type_name, tree_for,
+};
 
 use crate::cli::{Answer, Done, Wrong};
 use crate::hints::{hint, list_hint};
+use crate::named_hints::named_hint;
 use crate::options::{Known, Options};
 use crate::source::Source;
-use crate::{draw, input, json, listing, refused};
+use crate::{draw, input, json, listing, names, refused};
 
 const USAGE: &str = "\
 type-name read [OPTION ..] TEXT       the tree of a type name, or why it is refused
 type-name read [OPTION ..] --file ROW the same of a row file (docs/FORMAT.md)
+type-name read --names A,B ..         the same of a type name of C++ whose templates are A and B and no others
 type-name read --list ..              the same of each type name of a comma list
 ";
 
@@ -27,7 +32,7 @@ Exit status: 0 accepted, 1 refused, 2 wrong use or input.
 
 const KNOWN: Known = Known {
     flags: &["--no-structure", "--list", "--listing", "--json", "--help"],
-    valued: &input::VALUED,
+    valued: &[&input::VALUED, &names::VALUED],
 };
 
 /// How the answer is shown.
@@ -41,7 +46,8 @@ enum Form {
 pub fn command(arguments: &[OsString]) -> Done {
     let options = Options::read(arguments, &KNOWN)?;
     if options.has("--help") {
-        return Ok(Answer::Accepted(format!("{USAGE}\n{}{FORMS}", input::HELP)));
+        let (input, names) = (input::HELP, names::HELP);
+        return Ok(Answer::Accepted(format!("{USAGE}\n{input}{names}{FORMS}")));
     }
     let form = match (options.has("--listing"), options.has("--json")) {
         (false, false) => Form::Words,
@@ -49,7 +55,11 @@ pub fn command(arguments: &[OsString]) -> Done {
         (false, true) => Form::Json,
         (true, true) => return Err(Wrong("--listing and --json exclude each other".into())),
     };
+    let names = names::given(&options)?;
     let source = input::source(&options, options.words())?;
+    if names.is_some() {
+        names::check_language(&source)?;
+    }
     let mut buffer = tree_for(&source.file);
     if options.has("--list") {
         return Ok(match parse_type_list(&source.file, &mut buffer) {
@@ -57,9 +67,14 @@ pub fn command(arguments: &[OsString]) -> Done {
             Err(refused) => Answer::Refused(form.refused_list(&source, &refused)),
         });
     }
-    Ok(match parse_type_name(&source.file, &mut buffer) {
+    let names = names.as_ref();
+    let read = match names {
+        Some(names) => parse_named_type_name(&source.file, names, &mut buffer),
+        None => parse_type_name(&source.file, &mut buffer),
+    };
+    Ok(match read {
         Ok(tree) => Answer::Accepted(form.accepted(&source, &tree)),
-        Err(refusal) => Answer::Refused(form.refused(&source, refusal)),
+        Err(refusal) => Answer::Refused(form.refused(&source, refusal, names)),
     })
 }
 
@@ -80,8 +95,11 @@ impl Form {
         }
     }
 
-    fn refused(self, source: &Source, refusal: Refusal) -> String {
-        let hint = || hint(source, refusal);
+    fn refused(self, source: &Source, refusal: Refusal, names: Option<&Names>) -> String {
+        let hint = || match names {
+            Some(names) => named_hint(source, names, refusal),
+            None => hint(source, refusal),
+        };
         match self {
             Self::Words => refused::sentence(source, refusal, hint().as_ref()),
             Self::Listing => listing::refused(refusal),

@@ -17,6 +17,8 @@ pub struct Rule {
     pub sentence: &'static str,
     /// Whether the new text names the same type. If not, it only shows that this rule is what refuses the text.
     pub is_same_type: bool,
+    /// Whether it is about a list that is tried.
+    pub is_about_tries: bool,
     edits: fn(&Text) -> Vec<Edit>,
 }
 
@@ -24,51 +26,61 @@ pub const RULES: [Rule; 10] = [
     Rule {
         sentence: "before a comma `>>` is not taken for two closing angles; write `> >`:",
         is_same_type: true,
+        is_about_tries: true,
         edits: split_shifts,
     },
     Rule {
         sentence: "a pointer to member stands in parentheses:",
         is_same_type: true,
+        is_about_tries: false,
         edits: parenthesized_members,
     },
     Rule {
         sentence: "a cast is read with its type before the parentheses:",
         is_same_type: true,
+        is_about_tries: false,
         edits: functional_casts,
     },
     Rule {
         sentence: "`<` behind a name is tried as a list; if no template is meant, put the name in parentheses:",
         is_same_type: true,
+        is_about_tries: true,
         edits: parenthesized_operands,
     },
     Rule {
         sentence: "a function that returns a pointer is read without the outer parentheses:",
         is_same_type: true,
+        is_about_tries: false,
         edits: bare_function_declarators,
     },
     Rule {
         sentence: "`complex` is a name like any other; write `_Complex`:",
         is_same_type: true,
+        is_about_tries: false,
         edits: complex_keywords,
     },
     Rule {
         sentence: "a length in parentheses behind `*` is not read; write it as a selector:",
         is_same_type: true,
+        is_about_tries: false,
         edits: lengths_as_selectors,
     },
     Rule {
         sentence: "`__int128` is a name like any other, and none may follow `unsigned`; this is not read",
         is_same_type: false,
+        is_about_tries: false,
         edits: plain_integers,
     },
     Rule {
         sentence: "an empty template argument list is not read",
         is_same_type: false,
+        is_about_tries: false,
         edits: filled_lists,
     },
     Rule {
         sentence: "two or more parameters with a `::` and a `*` among them are taken for a declarator; this is not read",
         is_same_type: false,
+        is_about_tries: false,
         edits: unqualified_parameters,
     },
 ];

@@ -75,6 +75,13 @@ fn class(name: String, make: impl Fn() -> Vec<Row> + 'static) -> Class {
     Class { name, make }
 }
 
+/// The rows of the class of this name.
+pub fn class_rows(corpus: &str, name: &str) -> Vec<Row> {
+    let classes = classes(corpus);
+    let class = classes.iter().find(|class| class.name == name);
+    class.expect("a class of this name").rows()
+}
+
 /// The rows of the corpus that are accepted with the structure check.
 pub fn accepted(corpus: &str) -> Vec<Row> {
     let (_, label, standard, flag) = CORPUS[0];
@@ -154,7 +161,7 @@ fn plain(kind: Kind) -> Token {
 }
 
 /// `A<b,b,..>`
-fn list(tokens: usize) -> Vec<Token> {
+pub fn list(tokens: usize) -> Vec<Token> {
     let mut row = vec![word("A"), plain(Kind::Less)];
     while row.len() + 2 <= tokens {
         row.extend([word("b"), plain(Kind::Comma)]);
@@ -165,7 +172,7 @@ fn list(tokens: usize) -> Vec<Token> {
 }
 
 /// `int` between so many openers and closers.
-fn nested(depth: usize, opener: &[Token], closer: Kind) -> Vec<Token> {
+pub fn nested(depth: usize, opener: &[Token], closer: Kind) -> Vec<Token> {
     let opened = opener.iter().cloned().cycle().take(depth * opener.len());
     let closed = std::iter::repeat_n(plain(closer), depth);
     opened.chain([word("int")]).chain(closed).collect()

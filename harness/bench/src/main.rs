@@ -15,6 +15,7 @@ use type_name::{ANSWER_LENGTH, type_name_read, type_name_read_list};
 mod classes;
 mod conversions;
 mod lists;
+mod named;
 mod outer;
 mod rules;
 mod stack;
@@ -29,8 +30,9 @@ bench CORPUS [--class TEXT]
     Proved reader: the file is made before; decoding, checking and clearing are counted. It allocates nothing: the tree
     buffer is lent, of just the size that the row needs, with what the row before left in it.
 bench CORPUS --stack
-    For each class the most bytes of stack that the proved reader takes for a row of it, and type_name_read_list for the
-    row twice, as a list; then those of both conversions for an accepted row of the corpus.
+    For each class the most bytes of stack that the proved reader takes for a row of it, type_name_read_list for the row
+    twice, as a list, and type_name_read_named for the row with the names of its own templates; then those of both conversions
+    for an accepted row of the corpus.
 bench CORPUS --rules
     Time and instructions a row of type_name_match, beside type_name_read, on the accepted rows of the corpus with tables
     of 32 rules; the time of all calls of type_name_overlap over the greatest tables; the most bytes of stack of both.
@@ -44,6 +46,11 @@ bench CORPUS --outer
     How many accepted names of the corpus have an outer template, by language; time and instructions a call of
     type_name_outer beside the same count by a visit of every node of the tree, for the corpus, for one list of 1 to 256
     arguments and for one argument of 1 to 256 nodes. Instructions are those within the function that counts.
+bench CORPUS --named
+    Time and instructions a token of type_name_read_named beside type_name_read: on the C++ names of the corpus, each with the
+    names of its own templates and all with 1, 16 and 512 names; on those without a list; on one token, where little else is
+    done than reading the names; on lists of up to 1,024 tokens and 64 deep; on lists that fail; and with 512 names that share
+    a bucket of the table that the library makes of them. How many rows each accepts; the most bytes of stack of both.
 ";
 
 /// A round goes over a class as often as the original gets through it in this time, and once more.
@@ -70,6 +77,8 @@ fn main() -> ExitCode {
         [corpus, "--conversions", "--class", text] => conversions::table(corpus, text),
         [corpus, "--outer"] => outer::table(corpus),
         [corpus, "--outer-once", count, name] => outer::once(corpus, count, name),
+        [corpus, "--named"] => named::table(corpus),
+        [corpus, "--named-once", entry, place] => named::once(corpus, entry, place),
         [corpus, "--once", reader, name] => once(corpus, reader, name),
         _ => Err(HELP.to_owned()),
     };
@@ -123,8 +132,10 @@ fn stacks(corpus: &str) -> Result<(), String> {
         let rows = class.rows();
         let one = stack::most(&rows, type_name_read);
         let list = stack::most(&lists::doubled(&rows), type_name_read_list);
+        let named = named::stack(&rows);
         println!("{}: {one}", class.name);
         println!("{}, twice in a list: {list}", class.name);
+        println!("{}, by its names: {named}", class.name);
     }
     let rows = classes::accepted(corpus);
     for conversion in Conversion::BOTH {
@@ -235,6 +246,7 @@ fn counted(arguments: &[&str]) -> Result<u64, String> {
         .arg("--toggle-collect=*proved_matches*")
         .arg("--toggle-collect=*proved_lists*")
         .arg("--toggle-collect=*proved_conversions*")
+        .arg("--toggle-collect=*proved_named*")
         .arg("--toggle-collect=type_name_outer")
         .arg("--toggle-collect=*by_every_node*")
         .arg(program)

@@ -15,6 +15,7 @@ use type_name::{ANSWER_LENGTH, type_name_read};
 mod conversions;
 mod corpus;
 mod lists;
+mod named;
 mod notes;
 mod outer;
 mod rules;
@@ -50,6 +51,13 @@ side_by_side --outer [--seed S] [--count N]
     more (default 100000, seed 1) on trees of accepted rows, on such with other numbers where these do not count, on
     damaged ones and on small numbers: the harness's model, the original's full tree and the proved library. Prints how
     often each outcome was seen, and where there was no list, which test was the first that failed.
+side_by_side --named [--seed S] [--count N]
+    N calls or some more (default 100000, seed 1) for the reading with named templates: rows with lists, brackets and angles
+    in each other and name lists for them, both damaged at times, with allowances about the steps: the harness's model and
+    the proved library, which is held to the original without lists where no list is opened and to its own old entry where
+    that has the same lists. Prints how often each outcome was seen.
+side_by_side --named --exhaustive N
+    The same on all rows of up to N tokens over two words, of which one is named, angles, brackets and commas.
 ";
 
 /// What the buffer holds before a call.
@@ -58,15 +66,20 @@ const DIRT: u32 = 0xdead_beef;
 /// Compares the library with a model of the harness, from a seed on, in so many calls.
 type Compare = fn(seed: u64, count: u64) -> ExitCode;
 
-const MODELS: [(&str, Compare); 4] = [
+const MODELS: [(&str, Compare); 5] = [
     ("--rules", rules::compare),
     ("--lists", lists::compare),
     ("--conversions", conversions::compare),
     ("--outer", outer::compare),
+    ("--named", named::compare),
 ];
 
 fn main() -> ExitCode {
     let options = Options(std::env::args().skip(1).collect());
+    if options.has("--named") && options.has("--exhaustive") {
+        let longest = options.number("--exhaustive", None);
+        return longest.map_or_else(|message| wrong_use(&message), named::exhaustive);
+    }
     for (name, compare) in MODELS {
         if options.has(name) {
             return modelled(&options, compare).unwrap_or_else(|message| wrong_use(&message));

@@ -19,6 +19,20 @@ pub fn tokens(text: &str) -> Vec<Token> {
     text.split_whitespace().map(token).collect()
 }
 
+/// The text of tokens, `#` and its number for a kind that has no sign here.
+pub fn written(tokens: &[Token]) -> String {
+    let texts: Vec<String> = tokens.iter().map(sign).collect();
+    texts.join(" ")
+}
+
+fn sign(token: &Token) -> String {
+    match SIGNS.iter().find(|(_, kind)| *kind == token.kind) {
+        Some((sign, _)) => (*sign).to_owned(),
+        None if token.kind == Kind::Identifier => token.word.clone(),
+        None => format!("#{}", token.kind.number()),
+    }
+}
+
 fn token(text: &str) -> Token {
     if let Some(&(_, kind)) = SIGNS.iter().find(|(sign, _)| *sign == text) {
         return Token::plain(kind);
