@@ -4,6 +4,7 @@ pub mod Chains
 pub mod Runs
 pub mod OperatorRanges
 pub mod Counts
+pub mod SingleWord
 pub mod Siblings
 pub mod Commas
 pub mod Elements

@@ -1,7 +1,7 @@
-// The declaration specifiers at the head of a C or C++ type name: `validate_c_decl_specifiers`, and what its loop does at a node, one arm of the
-// original's `match` after another. `before`: word of the node before the node; `right`, `second`: shape and word of the node after it. `seen`: how
-// often each builtin type word and each qualifier was seen, by word number; `none`: no builtin type word was, kept beside the counts so that a name
-// need not look through them.
+// The declaration specifiers at the head of a C or C++ type name: `validate_c_decl_specifiers`, and what its loop does at a node, a function for each
+// arm of the original's `match`. `before`: word of the node before the node; `right`, `second`: shape and word of the node after it. `seen`: how
+// often each builtin type word and each qualifier was seen, by word number; `none` and `single`: no builtin type word was, and one once, kept beside
+// the counts so that most types need not look through them.
 
 use crate::combination::COUNTED_WORDS;
 use crate::combination::has;
@@ -26,11 +26,17 @@ use rows::languages::CPP;
 use rows::word_numbers::BIT_INT;
 use rows::word_numbers::NO_WORD;
 ghost use mathlib.Core.Path.{_≡_};
+ghost use mathlib.Core.Bool.{true, not, _&&_, _||_};
+ghost use mathlib.Core.List.{[], _∷_};
 ghost use Prim.Native.Nat.{_<_};
 ghost use lib.Dec.{eqb};
-ghost use Rattle.rows.specs.Notation.{if_then_else_};
-ghost use Rattle.rows.specs.Words.{«_BitInt»};
-ghost use Rattle.type_nodes.specs.Combination.{once-more, no-builtin-word, validate-c-bit-int-sign, counted-words};
+ghost use Rattle.rows.specs.Notation.{if_then_else_, _is-one-of_};
+ghost use Rattle.rows.specs.Languages.{Cpp};
+ghost use Rattle.rows.specs.Kinds.{Identifier, Scope};
+ghost use Rattle.rows.specs.Words.{no-word, «_BitInt»};
+ghost use Rattle.type_nodes.specs.Shapes.{Parenthesized, TemplateArguments};
+ghost use Rattle.type_nodes.specs.Sets.{parenthesis-words};
+ghost use Rattle.type_nodes.specs.Combination.{once-more, no-builtin-word, validate-c-bit-int-sign, validate-c-builtin-combination, counted-words};
 ghost use Rattle.type_nodes.specs.Specifiers.{specifiers-end, parenthesis-word, qualifier-word, elaborated-word, builtin-word, name-word, leading-global-scope, specifier-scope, specifier-list, specifier-node, validate-c-decl-specifiers};
 ghost use Rattle.type_nodes.specs.Stands.{WordedNodes, Of};
 ghost use Rattle.type_nodes.specs.RepresentedSpecifiers.{specifiers-of, SpecifierMoves, Always, Goes, Serves, Tells};
@@ -87,8 +93,14 @@ fn count_if(ok: bool, word: u8, flags: SpecifierFlags) -> SpecifierMove
     SpecifierMove::Stop(false)
 }
 
-fn specifiers_end(seen: &[usize; COUNTED_WORDS], none: bool, flags: SpecifierFlags) -> bool
-    requires { ⌜ none ≡ no-builtin-word (now seen) ⌝ }
+// One builtin type word alone goes together with any qualifiers.
+fn specifiers_end(
+    seen: &[usize; COUNTED_WORDS],
+    none: bool,
+    single: bool,
+    flags: SpecifierFlags,
+) -> bool
+    requires { ⌜ (none ≡ no-builtin-word (now seen)) × (single ≡ true → validate-c-builtin-combination (now seen) ≡ true) ⌝ }
     ensures { λ r. ⌜ r ≡ specifiers-end (specifiers-of (now (seen .entry)) flags) ⌝ }
 {
     if flags.previous_was_scope {
@@ -97,10 +109,13 @@ fn specifiers_end(seen: &[usize; COUNTED_WORDS], none: bool, flags: SpecifierFla
     if flags.saw_bit_int {
         return validate_c_bit_int_sign(seen);
     }
-    if !none {
-        return validate_c_builtin_combination(seen);
+    if none {
+        return flags.saw_named_type | flags.saw_elaborated;
     }
-    flags.saw_named_type | flags.saw_elaborated
+    if single {
+        return true;
+    }
+    validate_c_builtin_combination(seen)
 }
 
 // A word that makes a specifier with the parentheses after it.
@@ -227,7 +242,53 @@ fn specifier_list(language: u8, flags: SpecifierFlags) -> SpecifierMove
     )
 }
 
-// The last line is the original's three `break`.
+// A word, whatever the words beside it.
+fn specifier_word(
+    language: u8,
+    word: u8,
+    right: u8,
+    seen: &[usize; COUNTED_WORDS],
+    none: bool,
+    flags: SpecifierFlags,
+) -> SpecifierMove
+    requires { ⌜ none ≡ no-builtin-word (now seen) ⌝ }
+    ensures { λ r. ⌜ SpecifierMoves (now (seen .entry)) r (specifier-node language no-word Identifier word right no-word (specifiers-of (now (seen .entry)) flags)) ⌝ }
+{
+    if is_parenthesis_word(word) & (right == PARENTHESIZED) {
+        return parenthesis_word(word, seen, none, flags);
+    }
+    if is_c_builtin_type_word(word) {
+        return builtin_word(word, flags);
+    }
+    if is_c_family_declarator_qualifier(word) {
+        return qualifier_word(word, seen, flags);
+    }
+    if is_elaborated_word(word) {
+        return elaborated_word(language, word, right, none, flags);
+    }
+    name_word(none, flags)
+}
+
+// Whether the specifiers end before a node of this shape: the original's three `break`, and where there is no node.
+fn ends_specifiers(before: u8, shape: u8) -> bool
+    ensures { λ r. ⌜ r ≡ not (shape is-one-of (Identifier ∷ Scope ∷ TemplateArguments ∷ []) || (eqb shape Parenthesized && before is-one-of parenthesis-words)) ⌝ }
+{
+    if shape == IDENTIFIER {
+        return false;
+    }
+    if shape == SCOPE {
+        return false;
+    }
+    if shape == TEMPLATE_ARGUMENTS {
+        return false;
+    }
+    if shape == PARENTHESIZED {
+        return !is_parenthesis_word(before);
+    }
+    true
+}
+
+// What is done at a node that does not end the specifiers. Parentheses are then those of the word before them, which is all that is asked of it.
 fn specifier_node(
     language: u8,
     before: u8,
@@ -239,27 +300,11 @@ fn specifier_node(
     none: bool,
     flags: SpecifierFlags,
 ) -> SpecifierMove
-    requires { ⌜ none ≡ no-builtin-word (now seen) ⌝ }
+    requires { ⌜ (none ≡ no-builtin-word (now seen)) × ((shape is-one-of (Identifier ∷ Scope ∷ TemplateArguments ∷ []) || (eqb shape Parenthesized && before is-one-of parenthesis-words)) ≡ true) ⌝ }
     ensures { λ r. ⌜ SpecifierMoves (now (seen .entry)) r (specifier-node language before shape word right second (specifiers-of (now (seen .entry)) flags)) ⌝ }
 {
-    let identifier = shape == IDENTIFIER;
-    if (shape == PARENTHESIZED) & is_parenthesis_word(before) {
-        return SpecifierMove::On(flags);
-    }
-    if identifier & is_parenthesis_word(word) & (right == PARENTHESIZED) {
-        return parenthesis_word(word, seen, none, flags);
-    }
-    if identifier & is_c_family_declarator_qualifier(word) {
-        return qualifier_word(word, seen, flags);
-    }
-    if identifier & is_elaborated_word(word) {
-        return elaborated_word(language, word, right, none, flags);
-    }
-    if identifier & is_c_builtin_type_word(word) {
-        return builtin_word(word, flags);
-    }
-    if identifier {
-        return name_word(none, flags);
+    if shape == IDENTIFIER {
+        return specifier_word(language, word, right, seen, none, flags);
     }
     if shape == SCOPE {
         return specifier_scope(language, right, second, none, flags);
@@ -267,7 +312,24 @@ fn specifier_node(
     if shape == TEMPLATE_ARGUMENTS {
         return specifier_list(language, flags);
     }
-    SpecifierMove::Stop(specifiers_end(seen, none, flags))
+    SpecifierMove::On(flags)
+}
+
+// The two nodes that most specifiers are made of are taken in the loop: a name, and `::` after one.
+
+fn is_plain_name(shape: u8, word: u8, none: bool, flags: SpecifierFlags) -> bool
+    ensures { λ r. ⌜ r ≡ (eqb shape Identifier && eqb word no-word && none && (not (flags .«saw_named_type») || flags .«previous_was_scope» || flags .«saw_elaborated»)) ⌝ }
+{
+    (shape == IDENTIFIER)
+        & (word == NO_WORD)
+        & none
+        & (!flags.saw_named_type | flags.previous_was_scope | flags.saw_elaborated)
+}
+
+fn is_scope_after_name(language: u8, shape: u8, flags: SpecifierFlags) -> bool
+    ensures { λ r. ⌜ r ≡ (eqb shape Scope && eqb language Cpp && flags .«saw_named_type» && not (flags .«previous_was_scope»)) ⌝ }
+{
+    (shape == SCOPE) & (language == CPP) & flags.saw_named_type & !flags.previous_was_scope
 }
 
 pub fn validate_c_decl_specifiers(
@@ -283,15 +345,32 @@ pub fn validate_c_decl_specifiers(
 {
     let mut seen: [usize; COUNTED_WORDS] = [0; COUNTED_WORDS];
     let mut none = true;
+    let mut single = false;
     let mut flags = NO_FLAGS;
     let mut before = NO_WORD;
     let mut at = from;
-    while at < to {
-        let word = exact_word(tree, kinds, words, at, to);
+    loop {
         let shape = shape_at(tree, kinds, at, to);
+        if ends_specifiers(before, shape) {
+            return specifiers_end(&seen, none, single, flags);
+        }
+        let word = exact_word(tree, kinds, words, at, to);
         let next = node_end(tree, kinds, at, to);
-        let second = exact_word(tree, kinds, words, next, to);
+        if is_plain_name(shape, word, none, flags) {
+            flags.saw_named_type = true;
+            flags.previous_was_scope = false;
+            before = word;
+            at = next;
+            continue;
+        }
+        if is_scope_after_name(language, shape, flags) {
+            flags.previous_was_scope = true;
+            before = word;
+            at = next;
+            continue;
+        }
         let right = shape_at(tree, kinds, next, to);
+        let second = exact_word(tree, kinds, words, next, to);
         let step = specifier_node(
             language,
             before,
@@ -310,13 +389,14 @@ pub fn validate_c_decl_specifiers(
             }
             SpecifierMove::Count(counted, after) => {
                 let i = counted as usize;
+                let builtin = is_c_builtin_type_word(counted);
                 seen[i] += 1;
-                none = none & !is_c_builtin_type_word(counted);
+                single = (builtin & none) | (!builtin & single);
+                none = none & !builtin;
                 flags = after;
             }
         }
         before = word;
         at = next;
     }
-    specifiers_end(&seen, none, flags)
 }

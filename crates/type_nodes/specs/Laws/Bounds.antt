@@ -1,6 +1,6 @@
--- Lists of numbers below a bound, by a test that is computed. Assumes nothing.
+-- Lists of numbers that all pass a test, as to be below a bound, which is computed. Assumes nothing.
 use Prim.Native.Nat.{ℕ, _≤_, _<_}
-use mathlib.Core.Path.{_≡_, refl, sym}
+use mathlib.Core.Path.{_≡_, refl, sym, ap, _∙_}
 use mathlib.Core.Bool.{Bool, true, false, true≢false, _&&_}
 use mathlib.Core.List.{List, [], _∷_}
 use native.Mathlib.Omega.{arith}
@@ -8,6 +8,21 @@ use lib.Dec.{ltb, eqb}
 use borrow.Author.Tests.{ltb-true, eqb-true}
 use Rattle.rows.specs.Notation.{_is-one-of_}
 use Rattle.type_nodes.specs.Laws.Tests.{and-left, and-right}
+
+-- A test that all of a list pass.
+unfoldable pub all-pass : (test : ℕ → Bool) → List ℕ → Bool
+all-pass test [] = true
+all-pass test (w ∷ ws) = test w && all-pass test ws
+
+-- What stands in the list passes it.
+pub one-passes : (test : ℕ → Bool) (w : ℕ) (ws : List ℕ) → all-pass test ws ≡ true → (w is-one-of ws) ≡ true → test w ≡ true
+unfolding all-pass _is-one-of_
+one-passes test w [] a h = absurd (true≢false (sym h))
+one-passes test w (v ∷ ws) a h =
+    elim (eqb w v) as (λ t. eqb w v ≡ t → test w ≡ true) [
+      | true ↦ λ e. ap test (eqb-true w v e) ∙ and-left (test v) (all-pass test ws) a
+      | false ↦ λ e. one-passes test w ws (and-right (test v) (all-pass test ws) a) (rw e at h)
+    ] refl
 
 unfoldable pub all-below : (bound : ℕ) → List ℕ → Bool
 all-below b [] = true

@@ -1,20 +1,22 @@
 -- The arms of the specifiers' table of moves, and the words that are counted. Assumes nothing.
 use Prim.Native.Nat.{ℕ, _<_}
-use mathlib.Core.Path.{_≡_, refl, ap, _∙_}
-use mathlib.Core.Bool.{Bool, true, false, _&&_}
-use mathlib.Core.List.{List}
+use mathlib.Core.Path.{_≡_, refl, sym, ap, _∙_}
+use mathlib.Core.Bool.{Bool, true, false, _&&_, _||_, not}
+use mathlib.Core.List.{List, [], _∷_}
 use lib.Dec.{eqb}
-use borrow.Author.Tests.{eqb-true}
+use borrow.Author.Tests.{eqb-true, not-true}
 use Rattle.rows.specs.Notation.{_is-one-of_}
+use Rattle.rows.specs.Languages.{Cpp}
 use Rattle.rows.specs.Kinds.{Identifier, Scope}
+use Rattle.rows.specs.Words.{no-word}
 use Rattle.type_nodes.specs.Shapes.{Parenthesized, TemplateArguments}
 use Rattle.type_nodes.specs.Sets.{parenthesis-words, elaborated-words, declarator-operators, is-c-builtin-type-word, is-c-family-declarator-qualifier, builtin-type-words, declarator-qualifiers}
-use Rattle.type_nodes.specs.Moves.{Move, stop, on}
-use Rattle.type_nodes.specs.Specifiers.{Specifiers, specifiers-end, parenthesis-word, qualifier-word, elaborated-word, builtin-word, name-word, specifier-scope, specifier-list, specifier-node}
-use Rattle.type_nodes.specs.Combination.{counted-words}
+use Rattle.type_nodes.specs.Moves.{Move, stop, on, on-if}
+use Rattle.type_nodes.specs.Specifiers.{Specifiers, specifiers, specifiers-end, leading-global-scope, parenthesis-word, qualifier-word, elaborated-word, builtin-word, name-word, specifier-scope, specifier-list, specifier-node}
+use Rattle.type_nodes.specs.Combination.{counted-words, no-builtin-word}
 use Rattle.type_nodes.specs.RepresentedSpecifiers.{SpecifierMoves}
-use Rattle.type_nodes.specs.Laws.Tests.{and-left}
-use Rattle.type_nodes.specs.Laws.Bounds.{all-below, one-below}
+use Rattle.type_nodes.specs.Laws.Tests.{and-both, and-left, and-right, neither-left, neither-right}
+use Rattle.type_nodes.specs.Laws.Bounds.{all-pass, one-passes, all-below, one-below}
 use Rattle.type_nodes.specs.declared.specifiers.SpecifierMove.{SpecifierMove}
 
 -- The same move by another name.
@@ -31,97 +33,126 @@ pub qualifier-counted : (w : ℕ) → is-c-family-declarator-qualifier w ≡ tru
 unfolding is-c-family-declarator-qualifier declarator-qualifiers all-below
 qualifier-counted w h = one-below counted-words w declarator-qualifiers refl h
 
--- ---- the table: where the tests before an arm fail and its own holds, the table gives the arm's move
+-- ---- the table: an arm's move is the table's where the arm's test holds
 
--- A test that one shape does not pass, of a node that has it.
-apart : (s k : ℕ) (test : ℕ → Bool) → eqb s k ≡ true → test k ≡ false → test s ≡ false
-apart s k test e h = ap test (eqb-true s k e) ∙ h
+-- A builtin type word is no qualifier and begins no elaborated name.
+builtin-apart : (w : ℕ) → is-c-builtin-type-word w ≡ true → (not (is-c-family-declarator-qualifier w) && not (w is-one-of elaborated-words)) ≡ true
+unfolding is-c-builtin-type-word builtin-type-words is-c-family-declarator-qualifier elaborated-words _is-one-of_ all-pass
+builtin-apart w h = one-passes (λ (v : ℕ). not (is-c-family-declarator-qualifier v) && not (v is-one-of elaborated-words)) w builtin-type-words refl h
 
--- The shapes at which the specifiers go on.
-group-goes-on : (Parenthesized is-one-of declarator-operators) ≡ false
-unfolding _is-one-of_ declarator-operators
-group-goes-on = refl
+-- At a word, whatever stands beside it.
+module _ (lang w right : ℕ) (st : Specifiers) where
+  abbrev at-word : Move Specifiers
+  at-word = specifier-node lang no-word Identifier w right no-word st
 
-name-goes-on : (Identifier is-one-of declarator-operators) ≡ false
-unfolding _is-one-of_ declarator-operators
-name-goes-on = refl
+  pub word-1 : (w is-one-of parenthesis-words && eqb right Parenthesized) ≡ true → parenthesis-word w st ≡ at-word
+  unfolding specifier-node
+  word-1 y = rw y
 
-scope-goes-on : (Scope is-one-of declarator-operators) ≡ false
-unfolding _is-one-of_ declarator-operators
-scope-goes-on = refl
+  module _ (n1 : (w is-one-of parenthesis-words && eqb right Parenthesized) ≡ false) where
+    pub word-2 : is-c-builtin-type-word w ≡ true → builtin-word w st ≡ at-word
+    unfolding specifier-node
+    word-2 y =
+        let a : (not (is-c-family-declarator-qualifier w) && not (w is-one-of elaborated-words)) ≡ true = builtin-apart w y in
+        let q : is-c-family-declarator-qualifier w ≡ false = not-true (is-c-family-declarator-qualifier w) (and-left (not (is-c-family-declarator-qualifier w)) (not (w is-one-of elaborated-words)) a) in
+        let r : (w is-one-of elaborated-words) ≡ false = not-true (w is-one-of elaborated-words) (and-right (not (is-c-family-declarator-qualifier w)) (not (w is-one-of elaborated-words)) a) in
+        rw (n1, q, r, y)
 
-list-goes-on : (TemplateArguments is-one-of declarator-operators) ≡ false
-unfolding _is-one-of_ declarator-operators
-list-goes-on = refl
+    module _ (n2 : is-c-builtin-type-word w ≡ false) where
+      pub word-3 : is-c-family-declarator-qualifier w ≡ true → qualifier-word w st ≡ at-word
+      unfolding specifier-node
+      word-3 y = rw (n1, y)
 
+      module _ (n3 : is-c-family-declarator-qualifier w ≡ false) where
+        pub word-4 : (w is-one-of elaborated-words) ≡ true → elaborated-word lang w right st ≡ at-word
+        unfolding specifier-node
+        word-4 y = rw (n1, n3, y)
+
+        pub word-5 : (w is-one-of elaborated-words) ≡ false → name-word st ≡ at-word
+        unfolding specifier-node
+        word-5 n4 = rw (n1, n3, n4, n2)
+
+-- At any node.
 module _ (lang lw s w right second : ℕ) (st : Specifiers) where
   abbrev table : Move Specifiers
   table = specifier-node lang lw s w right second st
 
-  -- They go on at a node that has such a shape.
-  goes-on : (k : ℕ) → eqb s k ≡ true → (k is-one-of declarator-operators) ≡ false → (s is-one-of declarator-operators) ≡ false
-  goes-on k e h = apart s k (λ (n : ℕ). n is-one-of declarator-operators) e h
+  -- The specifiers go on at the node.
+  abbrev goes-on : Bool
+  goes-on = s is-one-of (Identifier ∷ Scope ∷ TemplateArguments ∷ []) || (eqb s Parenthesized && lw is-one-of parenthesis-words)
 
-  no-group : (k : ℕ) → eqb s k ≡ true → eqb k Parenthesized ≡ false → eqb s Parenthesized ≡ false
-  no-group k e h = apart s k (λ (n : ℕ). eqb n Parenthesized) e h
-
-  pub specifier-1 : (eqb s Parenthesized && lw is-one-of parenthesis-words) ≡ true → on st ≡ table
+  pub at-identifier : s ≡ Identifier → at-word lang w right st ≡ table
   unfolding specifier-node
-  specifier-1 y =
-      let i : eqb s Parenthesized ≡ true = and-left (eqb s Parenthesized) (lw is-one-of parenthesis-words) y in
-      rw (goes-on Parenthesized i group-goes-on, y)
+  at-identifier y = rw y
 
-  module _ (n1 : (eqb s Parenthesized && lw is-one-of parenthesis-words) ≡ false) where
-    pub specifier-2 : (eqb s Identifier && w is-one-of parenthesis-words && eqb right Parenthesized) ≡ true → parenthesis-word w st ≡ table
+  pub at-scope : s ≡ Scope → specifier-scope lang right second st ≡ table
+  unfolding specifier-node
+  at-scope y = rw y
+
+  pub at-list : s ≡ TemplateArguments → specifier-list lang st ≡ table
+  unfolding specifier-node
+  at-list y = rw y
+
+  module _ (n1 : eqb s Identifier ≡ false) (n2 : eqb s Scope ≡ false) (n3 : eqb s TemplateArguments ≡ false) where
+    -- The parentheses of the word before them.
+    pub at-group : goes-on ≡ true → on st ≡ table
+    unfolding specifier-node _is-one-of_
+    at-group y =
+        let g : (eqb s Parenthesized && lw is-one-of parenthesis-words) ≡ true = rw (n1, n2, n3) at y in
+        rw (eqb-true s Parenthesized (and-left _ _ g), and-right (eqb s Parenthesized) (lw is-one-of parenthesis-words) g)
+
+    -- The three `break`.
+    breaks : (eqb s Parenthesized && lw is-one-of parenthesis-words) ≡ false → stop (specifiers-end st) ≡ table
     unfolding specifier-node
-    specifier-2 y =
-        let i : eqb s Identifier ≡ true = and-left (eqb s Identifier) (w is-one-of parenthesis-words) (and-left (eqb s Identifier && w is-one-of parenthesis-words) (eqb right Parenthesized) y) in
-        rw (goes-on Identifier i name-goes-on, n1, no-group Identifier i refl, y)
+    breaks n =
+        elim (s is-one-of declarator-operators) as (λ t. (s is-one-of declarator-operators) ≡ t → stop (specifiers-end st) ≡ table) [
+          | true ↦ λ e. rw e
+          | false ↦ λ e. elim (eqb s Parenthesized) as (λ t. eqb s Parenthesized ≡ t → stop (specifiers-end st) ≡ table) [
+            | true ↦ λ g. rw (e, n, g)
+            | false ↦ λ g. rw (e, n, g, n1, n2, n3)
+          ] refl
+        ] refl
 
-    module _ (n2 : (eqb s Identifier && w is-one-of parenthesis-words && eqb right Parenthesized) ≡ false) where
-      pub specifier-3 : (eqb s Identifier && is-c-family-declarator-qualifier w) ≡ true → qualifier-word w st ≡ table
-      unfolding specifier-node
-      specifier-3 y =
-          let i : eqb s Identifier ≡ true = and-left (eqb s Identifier) (is-c-family-declarator-qualifier w) y in
-          rw (goes-on Identifier i name-goes-on, n1, no-group Identifier i refl, n2, y)
+  pub at-end : not goes-on ≡ true → stop (specifiers-end st) ≡ table
+  unfolding _is-one-of_
+  at-end y =
+      let n : goes-on ≡ false = not-true goes-on y in
+      let shapes : (s is-one-of (Identifier ∷ Scope ∷ TemplateArguments ∷ [])) ≡ false = neither-left _ (eqb s Parenthesized && lw is-one-of parenthesis-words) n in
+      let others : (s is-one-of (Scope ∷ TemplateArguments ∷ [])) ≡ false = neither-right (eqb s Identifier) _ shapes in
+      let last : (s is-one-of (TemplateArguments ∷ [])) ≡ false = neither-right (eqb s Scope) _ others in
+      breaks (neither-left (eqb s Identifier) _ shapes) (neither-left (eqb s Scope) _ others) (neither-left (eqb s TemplateArguments) false last)
+      (neither-right (s is-one-of (Identifier ∷ Scope ∷ TemplateArguments ∷ [])) _ n)
 
-      module _ (n3 : (eqb s Identifier && is-c-family-declarator-qualifier w) ≡ false) where
-        pub specifier-4 : (eqb s Identifier && w is-one-of elaborated-words) ≡ true → elaborated-word lang w right st ≡ table
-        unfolding specifier-node
-        specifier-4 y =
-            let i : eqb s Identifier ≡ true = and-left (eqb s Identifier) (w is-one-of elaborated-words) y in
-            rw (goes-on Identifier i name-goes-on, n1, no-group Identifier i refl, n2, n3, y)
+-- The two nodes that the loop takes at once.
+module _ (lang lw s w right second : ℕ) (seen : List ℕ) (named elaborated bit-int scope : Bool) where
+  abbrev taken : Move Specifiers
+  taken = specifier-node lang lw s w right second (specifiers seen named elaborated bit-int scope)
 
-        module _ (n4 : (eqb s Identifier && w is-one-of elaborated-words) ≡ false) where
-          pub specifier-5 : (eqb s Identifier && is-c-builtin-type-word w) ≡ true → builtin-word w st ≡ table
-          unfolding specifier-node
-          specifier-5 y =
-              let i : eqb s Identifier ≡ true = and-left (eqb s Identifier) (is-c-builtin-type-word w) y in
-              rw (goes-on Identifier i name-goes-on, n1, no-group Identifier i refl, n2, n3, n4, y)
+  at-a-name : s ≡ Identifier → w ≡ no-word → name-word (specifiers seen named elaborated bit-int scope) ≡ taken
+  unfolding specifier-node _is-one-of_
+  at-a-name y z = rw (y, z)
 
-          module _ (n5 : (eqb s Identifier && is-c-builtin-type-word w) ≡ false) where
-            pub specifier-6 : eqb s Identifier ≡ true → name-word st ≡ table
-            unfolding specifier-node
-            specifier-6 y = rw (goes-on Identifier y name-goes-on, n1, no-group Identifier y refl, n2, n3, n4, n5, y)
+  named-on : no-builtin-word seen ≡ true → (not named || scope || elaborated) ≡ true
+      → name-word (specifiers seen named elaborated bit-int scope) ≡ on (specifiers seen true elaborated bit-int false)
+  unfolding name-word on-if
+  named-on y z = ap (λ (ok : Bool). on-if ok (specifiers seen true elaborated bit-int false)) (and-both y z)
 
-            module _ (n6 : eqb s Identifier ≡ false) where
-              pub specifier-7 : eqb s Scope ≡ true → specifier-scope lang right second st ≡ table
-              unfolding specifier-node
-              specifier-7 y = rw (goes-on Scope y scope-goes-on, n1, no-group Scope y refl, n2, n3, n4, n5, n6, y)
+  pub at-name : (no-builtin : Bool) → no-builtin ≡ no-builtin-word seen → (eqb s Identifier && eqb w no-word && no-builtin && (not named || scope || elaborated)) ≡ true
+      → taken ≡ on (specifiers seen true elaborated bit-int false)
+  at-name no-builtin k y =
+      let a : (eqb s Identifier && eqb w no-word && no-builtin) ≡ true = and-left _ (not named || scope || elaborated) y in
+      let b : (eqb s Identifier && eqb w no-word) ≡ true = and-left _ no-builtin a in
+      sym (at-a-name (eqb-true s Identifier (and-left _ (eqb w no-word) b)) (eqb-true w no-word (and-right (eqb s Identifier) _ b)))
+      ∙ named-on (sym k ∙ and-right (eqb s Identifier && eqb w no-word) no-builtin a) (and-right (eqb s Identifier && eqb w no-word && no-builtin) (not named || scope || elaborated) y)
 
-              module _ (n7 : eqb s Scope ≡ false) where
-                pub specifier-8 : eqb s TemplateArguments ≡ true → specifier-list lang st ≡ table
-                unfolding specifier-node
-                specifier-8 y = rw (goes-on TemplateArguments y list-goes-on, n1, no-group TemplateArguments y refl, n2, n3, n4, n5, n6, n7, y)
-
-                -- The three `break`.
-                pub specifier-9 : eqb s TemplateArguments ≡ false → stop (specifiers-end st) ≡ table
-                unfolding specifier-node
-                specifier-9 n8 =
-                    elim (s is-one-of declarator-operators) as (λ t. (s is-one-of declarator-operators) ≡ t → stop (specifiers-end st) ≡ table) [
-                      | true ↦ λ e. rw e
-                      | false ↦ λ e. elim (eqb s Parenthesized) as (λ t. eqb s Parenthesized ≡ t → stop (specifiers-end st) ≡ table) [
-                        | true ↦ λ g. rw (e, n1, g)
-                        | false ↦ λ g. rw (e, n1, g, n2, n3, n4, n5, n6, n7, n8)
-                      ] refl
-                    ] refl
+  pub at-scope-after-name : (eqb s Scope && eqb lang Cpp && named && not scope) ≡ true → taken ≡ on (specifiers seen named elaborated bit-int true)
+  unfolding specifier-node specifier-scope leading-global-scope on-if _is-one-of_
+  at-scope-after-name y =
+      let a : (eqb s Scope && eqb lang Cpp && named) ≡ true = and-left _ (not scope) y in
+      let b : (eqb s Scope && eqb lang Cpp) ≡ true = and-left _ named a in
+      rw (
+        eqb-true s Scope (and-left _ (eqb lang Cpp) b),
+        and-right (eqb s Scope) (eqb lang Cpp) b,
+        and-right (eqb s Scope && eqb lang Cpp) named a,
+        not-true scope (and-right (eqb s Scope && eqb lang Cpp && named) (not scope) y),
+      )

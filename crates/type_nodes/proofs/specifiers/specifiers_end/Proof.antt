@@ -1,4 +1,5 @@
 -- `specifiers_end` meets its contract. Assumes nothing.
+use mathlib.Core.Path.{sym}
 use borrow.Author.Needs.{needs}
 use Rattle.type_nodes.specs.Specifiers.{specifiers-end}
 use borrow.Author.Needs.{needs}
@@ -20,16 +21,20 @@ returns-2 : tie.Need-returns-2
 unfolding specifiers-end
 returns-2 c = rw (c .before .before .if1 .left, c .before .if2 .taken) (c .validate-c-bit-int-sign .ensures)
 
-validate-c-builtin-combination-requires : tie.Need-validate-c-builtin-combination-requires
-validate-c-builtin-combination-requires c κs = search needs
-
 returns-3 : tie.Need-returns-3
 unfolding specifiers-end
-returns-3 c = rw (c .before .before .before .if1 .left, c .before .before .if2 .left, ← c .before .before .before .before .pre, c .before .if3 .taken) (c .validate-c-builtin-combination .ensures)
+returns-3 c = rw (c .before .before .before .if1 .left, c .before .before .if2 .left, ← c .before .before .before .before .pre .0, c .before .if3 .taken)
 
 returns-4 : tie.Need-returns-4
 unfolding specifiers-end
-returns-4 c = rw (c .before .before .before .if1 .left, c .before .before .if2 .left, ← c .before .before .before .before .pre, c .before .if3 .left)
+returns-4 c = rw (c .before .before .before .if1 .left, c .before .before .if2 .left, ← c .before .before .before .before .pre .0, c .before .if3 .left) (sym (c .before .before .before .before .pre .1 (c .if4 .taken)))
+
+validate-c-builtin-combination-requires : tie.Need-validate-c-builtin-combination-requires
+validate-c-builtin-combination-requires c κs = search needs
+
+returns-5 : tie.Need-returns-5
+unfolding specifiers-end
+returns-5 c = rw (c .before .before .before .before .if1 .left, c .before .before .before .if2 .left, ← c .before .before .before .before .before .pre .0, c .before .before .if3 .left) (c .validate-c-builtin-combination .ensures)
 
 pub specifiers-end-spec : {M : Type 1} → statement M
 specifiers-end-spec =
@@ -38,6 +43,7 @@ specifiers-end-spec =
     returns
     validate-c-bit-int-sign-requires
     returns-2
-    validate-c-builtin-combination-requires
     returns-3
-    returns-4)
+    returns-4
+    validate-c-builtin-combination-requires
+    returns-5)
