@@ -4,6 +4,10 @@
 
 use crate::declarators::abstract_declarator_node;
 use crate::declarators::c_family_node;
+use crate::declarators::is_type_word;
+use crate::declarators::takes_list;
+use crate::declarators::takes_scope;
+use crate::declarators::takes_word;
 use crate::expressions::expression_end;
 use crate::expressions::expression_node;
 use crate::moves::DeclaratorLoop;
@@ -27,6 +31,7 @@ use type_nodes::shapes::NO_NODE;
 use type_nodes::specifiers::validate_c_decl_specifiers;
 use type_nodes::split_on_commas::element_end;
 use type_nodes::split_on_commas::elements_are_full;
+ghost use Prim.Native.Nat.{_<_};
 ghost use Rattle.type_nodes.specs.Moves.{type-or-expression, arguments};
 ghost use Rattle.type_nodes.specs.Stands.{WordedNodes};
 ghost use Rattle.structure.specs.Said.{a-type, a-declarator, an-expression};
@@ -49,6 +54,25 @@ pub fn validate_c_family_type(
     if allowed == 0 {
         return Verdict::Spent;
     }
+    if is_type_word(tree, kinds, words, from, to) {
+        return Verdict::Holds(allowed - 1);
+    }
+    c_family_level(language, tree, kinds, words, from, to, allowed)
+}
+
+// The same where a step is left. The three nodes that most types are made of are taken in the loop, without a move.
+fn c_family_level(
+    language: u8,
+    tree: &[u32],
+    kinds: &[u8],
+    words: &[u8],
+    from: usize,
+    to: usize,
+    allowed: usize,
+) -> Verdict
+    requires { ⌜ (0 < allowed) × WordedNodes (now tree) (now kinds) (now words) from to ⌝ }
+    ensures { λ r. ⌜ VerdictSays (now (tree .entry)) (now (kinds .entry)) from to allowed (checked language (now (kinds .entry)) (now (words .entry)) a-type) r ⌝ }
+{
     let mut left = allowed - 1;
     if !validate_c_decl_specifiers(language, tree, kinds, words, from, to) {
         return Verdict::Fails(left);
@@ -65,7 +89,32 @@ pub fn validate_c_family_type(
         let shape = shape_at(tree, kinds, at, to);
         let word = exact_word(tree, kinds, words, at, to);
         let end = node_end(tree, kinds, at, to);
+        if takes_word(shape, word, st.declarator_started) {
+            st.saw_type_word = true;
+            before = shape;
+            word_before = word;
+            at = end;
+            continue;
+        }
         let right = shape_at(tree, kinds, end, to);
+        if takes_scope(language, before, shape, right) {
+            before = shape;
+            word_before = word;
+            at = end;
+            continue;
+        }
+        if takes_list(language, before, shape) {
+            let said = arguments(language, tree, kinds, words, at + 1, end, left);
+            let Verdict::Holds(steps) = said else {
+                return said;
+            };
+            left = steps;
+            st.saw_type_word = true;
+            before = shape;
+            word_before = word;
+            at = end;
+            continue;
+        }
         let act = c_family_node(language, before, word_before, shape, word, right, st);
         match act {
             TypeMove::Stop(holds) => return plain(holds, left),

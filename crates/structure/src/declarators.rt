@@ -18,7 +18,11 @@ use rows::languages::CPP;
 use rows::word_numbers::ATOMIC;
 use rows::word_numbers::BIT_INT;
 use rows::word_numbers::DECLTYPE;
+use rows::word_numbers::NO_WORD;
 use rows::word_numbers::NOEXCEPT;
+use type_nodes::nodes::exact_word;
+use type_nodes::nodes::is_single_token;
+use type_nodes::sets::is_c_builtin_type_word;
 use type_nodes::sets::is_c_family_declarator_qualifier;
 use type_nodes::sets::is_reference_operator;
 use type_nodes::sets::is_typeof_word;
@@ -27,6 +31,15 @@ use type_nodes::shapes::NO_NODE;
 use type_nodes::shapes::PARENTHESIZED;
 use type_nodes::shapes::TEMPLATE_ARGUMENTS;
 ghost use mathlib.Core.Path.{_≡_};
+ghost use mathlib.Core.Bool.{not, _&&_, _||_};
+ghost use lib.Dec.{eqb};
+ghost use Rattle.rows.specs.Languages.{Cpp};
+ghost use Rattle.rows.specs.Kinds.{Identifier, Scope};
+ghost use Rattle.rows.specs.Words.{no-word};
+ghost use Rattle.type_nodes.specs.Shapes.{TemplateArguments};
+ghost use Rattle.type_nodes.specs.Nodes.{exact-word, is-single-token};
+ghost use Rattle.type_nodes.specs.Sets.{is-c-builtin-type-word, is-c-family-declarator-qualifier};
+ghost use Rattle.type_nodes.specs.Stands.{WordedNodes, Of};
 ghost use Rattle.structure.specs.Declarators.{scope-has-valid-neighbors, is-part-of-name, abstract-declarator-node, c-family-group, c-family-node};
 ghost use Rattle.structure.specs.RepresentedMoves.{declarator-move-of, declarator-state-of, type-move-of, type-state-of};
 
@@ -167,4 +180,48 @@ pub fn c_family_node(
         return type_inside_if(st.saw_type_word, Inner::ArrayBound, begun);
     }
     TypeMove::Stop(false)
+}
+
+// A type of one node, a name or a builtin type word: no walk is needed to accept it.
+pub fn is_type_word(tree: &[u32], kinds: &[u8], words: &[u8], from: usize, to: usize) -> bool
+    requires { ⌜ WordedNodes (now tree) (now kinds) (now words) from to ⌝ }
+    ensures { λ r. ⌜ Of (now (tree .entry)) (now (kinds .entry)) from to (λ x. r ≡ (is-single-token (now (kinds .entry)) Identifier x && (eqb (exact-word (now (kinds .entry)) (now (words .entry)) x) no-word || is-c-builtin-type-word (exact-word (now (kinds .entry)) (now (words .entry)) x)))) ⌝ }
+{
+    if is_single_token(tree, kinds, IDENTIFIER, from, to) {
+        let word = exact_word(tree, kinds, words, from, to);
+        return (word == NO_WORD) | is_c_builtin_type_word(word);
+    }
+    false
+}
+
+// Where `c_family_node` goes on past a word, a `::` and an argument list.
+
+pub fn takes_word(shape: u8, word: u8, declarator_started: bool) -> bool
+    ensures { λ r. ⌜ r ≡ (eqb shape Identifier && (not «declarator_started» || is-c-family-declarator-qualifier word)) ⌝ }
+{
+    if shape != IDENTIFIER {
+        return false;
+    }
+    if declarator_started {
+        return is_c_family_declarator_qualifier(word);
+    }
+    true
+}
+
+pub fn takes_scope(language: u8, left: u8, shape: u8, right: u8) -> bool
+    ensures { λ r. ⌜ r ≡ (eqb shape Scope && (eqb language Cpp && scope-has-valid-neighbors left right)) ⌝ }
+{
+    if shape != SCOPE {
+        return false;
+    }
+    (language == CPP) & scope_has_valid_neighbors(left, right)
+}
+
+pub fn takes_list(language: u8, left: u8, shape: u8) -> bool
+    ensures { λ r. ⌜ r ≡ (eqb shape TemplateArguments && (eqb language Cpp && eqb left Identifier)) ⌝ }
+{
+    if shape != TEMPLATE_ARGUMENTS {
+        return false;
+    }
+    (language == CPP) & (left == IDENTIFIER)
 }

@@ -1,19 +1,26 @@
 -- What the four loops of the code say so far, and what they do at a node. Assumes nothing.
-use Prim.Native.Nat.{ℕ, suc, _+_, _≤_, _<_}
+use Prim.Native.Nat.{ℕ, suc, _+_, _-_, _≤_, _<_}
 use mathlib.Core.Path.{_≡_, refl, sym, ap, _∙_, subst}
-use mathlib.Core.Bool.{Bool, true, false}
+use mathlib.Core.Bool.{Bool, true, false, true≢false, _&&_, _||_, not}
 use mathlib.Core.List.{List}
 use native.Mathlib.Nat.{zero-add}
-use Rattle.rows.specs.Kinds.{Integer}
+use lib.Dec.{eqb}
+use borrow.Author.Tests.{eqb-true}
+use Rattle.rows.specs.Laws.Tests.{and-false}
+use Rattle.rows.specs.Languages.{Cpp}
+use Rattle.rows.specs.Kinds.{Identifier, Integer, Scope}
 use Rattle.rows.specs.Words.{no-word, exactly}
 use Rattle.reader.specs.Nodes.{Nodes, none, node, count}
-use Rattle.type_nodes.specs.Shapes.{NoNode}
-use Rattle.type_nodes.specs.Nodes.{next, shape, exact-word, is-single-token}
-use Rattle.type_nodes.specs.Moves.{Move}
+use Rattle.type_nodes.specs.Shapes.{NoNode, TemplateArguments}
+use Rattle.type_nodes.specs.Nodes.{empty, next, shape, node-identifier, exact-word, is-single-token}
+use Rattle.type_nodes.specs.Sets.{is-c-builtin-type-word, is-c-family-declarator-qualifier}
+use Rattle.type_nodes.specs.Moves.{Move, on, inside, arguments}
+use Rattle.type_nodes.specs.Laws.Tests.{and-left, and-right}
+use Rattle.type_nodes.specs.Laws.SpecifierLoop.{word-specified}
 use Rattle.type_nodes.specs.Specifiers.{validate-c-decl-specifiers}
 use Rattle.type_nodes.specs.Stands.{Of, below}
 use Rattle.structure.specs.Said.{Said, holds, fails, after, both, plain, a-type, an-expression, a-declarator}
-use Rattle.structure.specs.Declarators.{TypeState, type-state, type-end, c-family-node, DeclaratorState, declarator-state, declarator-end, abstract-declarator-node}
+use Rattle.structure.specs.Declarators.{TypeState, type-state, type-end, c-family-node, scope-has-valid-neighbors, DeclaratorState, declarator-state, declarator-end, abstract-declarator-node}
 use Rattle.structure.specs.Expressions.{ExpressionState, expression-state, expression-end, expression-node}
 use Rattle.structure.specs.FortranTypes.{FortranState, fortran-state, fortran-end, fortran-node, validate-fortran-type-head, fortran-move}
 use Rattle.structure.specs.Checks.{checked, turn, loop, type-move, declarator-move, expression-move}
@@ -23,7 +30,13 @@ use Rattle.structure.specs.RepresentedMoves.{type-state-of, type-move-of
 use Rattle.structure.specs.RepresentedMoves.{fortran-state-of, fortran-move-of, Moves, Waits}
 use Rattle.structure.specs.Laws.Fixed.{fixed}
 use Rattle.structure.specs.Laws.Walks.{after-it}
-use Rattle.structure.specs.Laws.Loops.{Run}
+use Rattle.structure.specs.VerdictSays.{VerdictSays}
+use Rattle.structure.specs.Laws.Limits.{limited-entry, limited-yes, limited-both, on-holds}
+use Rattle.structure.specs.Laws.Tables.{word-taken, scope-taken, list-taken}
+use Rattle.structure.specs.Laws.Loops.{Run, turn-on, turn-end}
+use Rattle.structure.specs.Allowance.{verdict-within}
+use Rattle.structure.specs.declared.moves.Verdict.{Verdict}
+use Rattle.structure.specs.declared.moves.Verdict.the-variants.{Holds}
 use Rattle.structure.specs.declared.moves.Inner.{Inner}
 use Rattle.structure.specs.declared.moves.TypeLoop.{TypeLoop}
 use Rattle.structure.specs.declared.moves.TypeMove.{TypeMove}
@@ -79,6 +92,43 @@ module _ (lang : ℕ) (kinds words : List ℕ) where
   fortran-entry none = refl
   fortran-entry (node k i b x) = refl
 
+-- ---- a type of one word
+
+module _ (lang : ℕ) (kinds words : List ℕ) where
+  twice-yes : (left : ℕ) → on-holds (verdict-within left (plain true)) (λ l. verdict-within l (plain true)) ≡ Holds left
+  unfolding on-holds
+  twice-yes left = rw (limited-yes left) (limited-yes left)
+
+  word-body : (x : Nodes) → empty x ≡ false → next x ≡ none → shape kinds x ≡ Identifier → type-body lang kinds words x ≡ plain true
+  unfolding type-end
+  word-body x full alone i =
+      turn-on lang kinds words TypeState (type-move lang kinds words) type-end x NoNode no-word (type-state false false false) full (type-state true false false)
+      (word-taken lang NoNode (exactly no-word) (shape kinds x) (exact-word kinds words x) (shape kinds (next x)) false false false (rw i refl))
+      ∙ turn-end lang kinds words TypeState (type-move lang kinds words) type-end (next x) (shape kinds x) (node-identifier kinds words x) (type-state true false false) alone
+
+  -- The code asks whether a type is one word.
+  abbrev one-word : Nodes → Bool
+  one-word x = is-single-token kinds Identifier x && (eqb (exact-word kinds words x) no-word || is-c-builtin-type-word (exact-word kinds words x))
+
+  word-passes : (x : Nodes) → one-word x ≡ true → (validate-c-decl-specifiers lang kinds words x ≡ true) × (type-body lang kinds words x ≡ plain true)
+  unfolding is-single-token shape empty next
+  word-passes none y = absurd (true≢false (sym y))
+  word-passes (node k i b none) y =
+      let single : (eqb (shape kinds (node k i b none)) Identifier && true) ≡ true = and-left _ (eqb (exact-word kinds words (node k i b none)) no-word || is-c-builtin-type-word (exact-word kinds words (node k i b none))) y in
+      let s : shape kinds (node k i b none) ≡ Identifier = eqb-true _ Identifier (and-left (eqb (shape kinds (node k i b none)) Identifier) true single) in
+      (word-specified lang kinds words (node k i b none) refl refl s (and-right (eqb (shape kinds (node k i b none)) Identifier && true) _ y), word-body (node k i b none) refl refl s)
+  word-passes (node k i b (node l j c x)) y =
+      let none-here : (eqb (shape kinds (node k i b (node l j c x))) Identifier && false) ≡ true = and-left _ (eqb (exact-word kinds words (node k i b (node l j c x))) no-word || is-c-builtin-type-word (exact-word kinds words (node k i b (node l j c x)))) y in
+      absurd (true≢false (sym none-here ∙ and-false (eqb (shape kinds (node k i b (node l j c x))) Identifier)))
+
+  pub word-type : {tree : List ℕ} {from to allowed : ℕ} → 0 < allowed → {r : Bool} → Of tree kinds from to (λ x. r ≡ one-word x) → r ≡ true
+      → VerdictSays tree kinds from to allowed (checked lang kinds words a-type) (Holds (allowed - 1))
+  word-type {tree} {from} {to} {allowed} h {r} one y = record {
+    says = λ x s.
+        let p : (validate-c-decl-specifiers lang kinds words x ≡ true) × (type-body lang kinds words x ≡ plain true) = word-passes x (sym (one x s) ∙ y) in
+        sym (rw (type-entry lang kinds words x, p .0, p .1) (limited-entry allowed _ h ∙ limited-both (allowed - 1) _ _ ∙ twice-yes (allowed - 1)));
+  }
+
 -- ---- the loops
 
 module _ (lang : ℕ) (tree kinds words : List ℕ) (from to allowed left : ℕ) where
@@ -119,6 +169,28 @@ module _ {lang : ℕ} {tree kinds words : List ℕ} {from to allowed left : ℕ}
   type-moved q =
       rw (← lp .known .0, ← lp .known .1, ← sh (lp .walk .rest) (lp .walk .stands), ← wd (lp .walk .rest) (lp .walk .stands), ← rt (next (lp .walk .rest)) (after-it (lp .walk) h en))
       (sym mv ∙ ap type-move-of q)
+
+-- The three nodes that the code takes without a move.
+module _ {lang : ℕ} {tree kinds words : List ℕ} {from to allowed left : ℕ} {st : TypeLoop} {before word-before at : ℕ}
+    (lp : InType lang tree kinds words from to allowed left st before word-before at) {s : ℕ} (sh : Of tree kinds at to (λ x. s ≡ shape kinds x)) where
+  -- What the definition does at the node.
+  abbrev moves-here : Move TypeState
+  moves-here = type-move lang kinds words (lp .left-shape) (lp .left-word) (lp .walk .rest) (type-state-of st)
+
+  pub at-word : {w : ℕ} → Of tree kinds at to (λ x. w ≡ exact-word kinds words x) → {r : Bool}
+      → r ≡ (eqb s Identifier && (not (st .«declarator_started») || is-c-family-declarator-qualifier w)) → r ≡ true
+      → moves-here ≡ on (type-state true (st .«declarator_started») (st .«saw_reference»))
+  at-word wd d y = rw (← sh (lp .walk .rest) (lp .walk .stands), ← wd (lp .walk .rest) (lp .walk .stands)) (word-taken lang _ _ s _ _ _ _ _ (sym d ∙ y))
+
+  pub at-list : {r : Bool} → r ≡ (eqb s TemplateArguments && (eqb lang Cpp && eqb before Identifier)) → r ≡ true
+      → moves-here ≡ inside arguments (type-state true (st .«declarator_started») (st .«saw_reference»))
+  at-list d y = rw (← lp .known .0, ← sh (lp .walk .rest) (lp .walk .stands)) (list-taken lang before _ s _ _ _ _ _ (sym d ∙ y))
+
+  pub at-scope : (h : at < to) {e right : ℕ} → Of tree kinds at to (λ x. e ≡ suc (at + count (below x))) → Of tree kinds e to (λ x. right ≡ shape kinds x) → {r : Bool}
+      → r ≡ (eqb s Scope && (eqb lang Cpp && scope-has-valid-neighbors before right)) → r ≡ true → moves-here ≡ on (type-state-of st)
+  at-scope h en rt d y =
+      rw (← lp .known .0, ← sh (lp .walk .rest) (lp .walk .stands), ← rt (next (lp .walk .rest)) (after-it (lp .walk) h en))
+      (scope-taken lang before _ s _ _ _ _ _ (sym d ∙ y))
 
 module _ {lang : ℕ} {tree kinds words : List ℕ} {from to allowed left : ℕ} {st : DeclaratorLoop} {before at : ℕ}
     (lp : InDeclarator lang tree kinds words from to allowed left st before at) {s w e right : ℕ} {m : DeclaratorMove} (h : at < to)

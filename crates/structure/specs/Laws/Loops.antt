@@ -50,7 +50,7 @@ module _ (lang : ℕ) (kinds words : List ℕ) (S : Type 0) (move : (left lw : �
   abbrev going : Nodes → (left lw : ℕ) → S → Said
   going = loop lang kinds words (checked lang kinds words) S move done
 
-  turn-end : (x : Nodes) (l w : ℕ) (st : S) → x ≡ none → going x l w st ≡ plain (done st)
+  pub turn-end : (x : Nodes) (l w : ℕ) (st : S) → x ≡ none → going x l w st ≡ plain (done st)
   unfolding loop
   turn-end x l w st e = rw e
 
@@ -65,7 +65,7 @@ module _ (lang : ℕ) (kinds words : List ℕ) (S : Type 0) (move : (left lw : �
     unfolding follow
     turn-stop r e = turn-move x l w st full ∙ rw e
 
-    turn-on : (st′ : S) → move l w x st ≡ on st′ → going x l w st ≡ going (next x) (shape kinds x) (node-identifier kinds words x) st′
+    pub turn-on : (st′ : S) → move l w x st ≡ on st′ → going x l w st ≡ going (next x) (shape kinds x) (node-identifier kinds words x) st′
     unfolding follow
     turn-on st′ e = turn-move x l w st full ∙ rw e
 

@@ -2,10 +2,11 @@
 -- Assumes nothing.
 use Prim.Native.Nat.{ℕ, suc, pred, _+_}
 use native.Mathlib.Numerals.{add-one}
-use mathlib.Core.Path.{_≡_, refl}
+use mathlib.Core.Path.{_≡_, refl, sym, ap, _∙_}
 use mathlib.Core.Bool.{Bool, true, false, _&&_, _||_, not}
+use native.Mathlib.Omega.{arith}
 use lib.Dec.{eqb}
-use borrow.Author.Tests.{eq-eqb, ne-eqb}
+use borrow.Author.Tests.{eq-eqb, ne-eqb, eqb-true}
 use Rattle.rows.specs.Notation.{if_then_else_, _is-one-of_}
 use Rattle.rows.specs.Languages.{C, Cpp, Fortran}
 use Rattle.rows.specs.Kinds.{Identifier, Scope, Star, Question, Colon}
@@ -15,6 +16,7 @@ use Rattle.type_nodes.specs.Sets.{reference-operators, typeof-words, literals, 
 use Rattle.type_nodes.specs.Sets.{is-c-family-declarator-qualifier, is-binary-or-assignment-operator}
 use Rattle.type_nodes.specs.Moves.{type-name, expression, some-expression, optional-expression, type-or-expression, array-bound, declarator, arguments}
 use Rattle.type_nodes.specs.Moves.{selectors, declarator-or-parameters, Move, stop, on, inside, on-if, inside-if}
+use Rattle.type_nodes.specs.Laws.Tests.{and-left, and-right}
 use Rattle.structure.specs.Declarators.{scope-has-valid-neighbors, is-part-of-name, TypeState, DeclaratorState, type-state, declarator-state, abstract-declarator-node, c-family-group}
 use Rattle.structure.specs.Declarators.{c-family-node}
 use Rattle.structure.specs.Expressions.{ExpressionState, expression-state, expression-node}
@@ -135,6 +137,28 @@ module _ (lang left lw s w right : ℕ) (word started reference : Bool) where
               pub type-8 : (s ≡ Bracketed → ⊥) → stop false ≡ type-table
               unfolding c-family-node
               type-8 n7 = rw (ne-eqb s Identifier n1, ne-eqb s Scope n2, ne-eqb s TemplateArguments n3, ne-eqb s Star n4, n5, ne-eqb s Parenthesized n6, ne-eqb s Bracketed n7)
+
+-- The three nodes that the loop takes at once.
+module _ (lang left lw s w right : ℕ) (word started reference : Bool) where
+  pub word-taken : (eqb s Identifier && (not started || is-c-family-declarator-qualifier w)) ≡ true → type-table lang left lw s w right word started reference ≡ on (type-state true started reference)
+  unfolding on-if
+  word-taken y =
+      sym (type-1 lang left lw s w right word started reference (eqb-true s Identifier (and-left (eqb s Identifier) (not started || is-c-family-declarator-qualifier w) y)))
+      ∙ ap (λ (ok : Bool). on-if ok (type-state true started reference)) (and-right (eqb s Identifier) (not started || is-c-family-declarator-qualifier w) y)
+
+  pub scope-taken : (eqb s Scope && (eqb lang Cpp && scope-has-valid-neighbors left right)) ≡ true → type-table lang left lw s w right word started reference ≡ on (type-state word started reference)
+  unfolding on-if
+  scope-taken y =
+      let z : s ≡ Scope = eqb-true s Scope (and-left (eqb s Scope) (eqb lang Cpp && scope-has-valid-neighbors left right) y) in
+      sym (type-2 lang left lw s w right word started reference (λ q. absurd (omega (arith, z, q))) z)
+      ∙ ap (λ (ok : Bool). on-if ok (type-state word started reference)) (and-right (eqb s Scope) (eqb lang Cpp && scope-has-valid-neighbors left right) y)
+
+  pub list-taken : (eqb s TemplateArguments && (eqb lang Cpp && eqb left Identifier)) ≡ true → type-table lang left lw s w right word started reference ≡ inside arguments (type-state true started reference)
+  unfolding inside-if
+  list-taken y =
+      let z : s ≡ TemplateArguments = eqb-true s TemplateArguments (and-left (eqb s TemplateArguments) (eqb lang Cpp && eqb left Identifier) y) in
+      sym (type-3 lang left lw s w right word started reference (λ q. absurd (omega (arith, z, q))) (λ q. absurd (omega (arith, z, q))) z)
+      ∙ ap (λ (ok : Bool). inside-if ok arguments (type-state true started reference)) (and-right (eqb s TemplateArguments) (eqb lang Cpp && eqb left Identifier) y)
 
 module _ (lang s : ℕ) (operand access : Bool) (depth : ℕ) where
   abbrev expression-table : Move ExpressionState

@@ -115,12 +115,14 @@ each-alone : all-pass (λ w. validate-c-builtin-combination (once-more w none-se
 unfolding all-pass builtin-type-words validate-c-builtin-combination once-more none-seen
 each-alone = refl
 
-pub single-valid : {single : Bool} (seen : List ℕ) → Single single seen → single ≡ true → validate-c-builtin-combination seen ≡ true
+pub one-alone : (w : ℕ) → is-c-builtin-type-word w ≡ true → validate-c-builtin-combination (once-more w none-seen) ≡ true
 unfolding is-c-builtin-type-word
+one-alone w h = one-passes (λ v. validate-c-builtin-combination (once-more v none-seen)) w builtin-type-words each-alone h
+
+pub single-valid : {single : Bool} (seen : List ℕ) → Single single seen → single ≡ true → validate-c-builtin-combination seen ≡ true
 single-valid seen s y =
     let one : Alone seen = s y in
-    combination-agrees seen (once-more (one .word) none-seen) (one .agrees)
-    ∙ one-passes (λ w. validate-c-builtin-combination (once-more w none-seen)) (one .word) builtin-type-words each-alone (one .builtin)
+    combination-agrees seen (once-more (one .word) none-seen) (one .agrees) ∙ one-alone (one .word) (one .builtin)
 
 pub no-single : (seen : List ℕ) → Single false seen
 no-single seen y = absurd (true≢false (sym y))

@@ -9,22 +9,23 @@ use lib.ListN.{length, length-set, getD, set, replicate}
 use lib.Dec.{ltb, eqb}
 use borrow.Author.Tests.{ltb-true, ltb-false, not-false}
 use Rattle.rows.specs.Notation.{_is-one-of_}
+use Rattle.rows.specs.Laws.Tests.{and-false}
 use Rattle.rows.specs.Languages.{Cpp}
 use Rattle.rows.specs.Kinds.{Identifier, Scope}
 use Rattle.rows.specs.Words.{no-word}
 use Rattle.reader.specs.Nodes.{Nodes, none, node, count, node-width, numbers-bound}
 use Rattle.type_nodes.specs.Nodes.{empty, next, shape, exact-word}
-use Rattle.type_nodes.specs.Moves.{Move, stop, on}
+use Rattle.type_nodes.specs.Moves.{Move, stop, on, on-if}
 use Rattle.type_nodes.specs.Shapes.{Parenthesized, TemplateArguments}
 use Rattle.type_nodes.specs.Sets.{builtin-type-words, is-c-builtin-type-word, parenthesis-words}
-use Rattle.type_nodes.specs.Specifiers.{Specifiers, specifiers-end, specifier-node, specifiers-from, validate-c-decl-specifiers}
+use Rattle.type_nodes.specs.Specifiers.{Specifiers, specifiers, specifiers-end, builtin-word, specifier-node, specifiers-from, validate-c-decl-specifiers}
 use Rattle.type_nodes.specs.Combination.{times, has, how-many, builtin-words, no-builtin-word, once-more, none-seen, counted-words, validate-c-builtin-combination}
 use Rattle.type_nodes.specs.Stands.{Stands, WordedNodes, Of, below}
 use Rattle.type_nodes.specs.RepresentedSpecifiers.{specifiers-of, specifier-move-of, HasCount, SpecifierMoves}
 use Rattle.type_nodes.specs.Laws.Siblings.{first, nothing-left, unique}
 use Rattle.type_nodes.specs.Laws.Counts.{no-builtin-once-more}
-use Rattle.type_nodes.specs.Laws.SingleWord.{zeros, Single, no-single, single-valid, single-once-more}
-use Rattle.type_nodes.specs.Laws.SpecifierTables.{at-end, at-name, at-scope-after-name}
+use Rattle.type_nodes.specs.Laws.SingleWord.{zeros, Single, no-single, one-alone, single-valid, single-once-more}
+use Rattle.type_nodes.specs.Laws.SpecifierTables.{builtin-counted, word-2, at-identifier, at-end, at-name, at-scope-after-name}
 use Rattle.type_nodes.specs.declared.specifiers.SpecifierFlags.{SpecifierFlags}
 use Rattle.type_nodes.specs.declared.specifiers.SpecifierMove.{SpecifierMove}
 use Rattle.type_nodes.specs.declared.specifiers.SpecifierMove.the-variants as M
@@ -70,6 +71,49 @@ module _ (lang : ℕ) (kinds words : List ℕ) where
   unfolding specifiers-from empty next
   from-on none lw st h e = absurd (true≢false h)
   from-on (node k i b x) lw st h e = rw (e, specifiers-from)
+
+  -- ---- a type of one word
+
+  abbrev at-first : Specifiers
+  at-first = specifiers none-seen false false false false
+
+  none-first : true ≡ no-builtin-word none-seen
+  unfolding none-seen no-builtin-word builtin-words builtin-type-words how-many has times
+  none-first = refl
+
+  counted-first : (w : ℕ) → w < counted-words → w < length none-seen
+  unfolding none-seen
+  counted-first w h = h
+
+  module _ (x : Nodes) (full : empty x ≡ false) (alone : next x ≡ none) (i : shape kinds x ≡ Identifier) where
+    -- What the loop comes to where it goes on at the only node.
+    from-only : {st : Specifiers} → here x no-word at-first ≡ on st → specifiers-from lang kinds words x no-word at-first ≡ specifiers-end st
+    from-only {st} e =
+        from-on x no-word at-first full e
+        ∙ from-end (next x) (exact-word kinds words x) st (ap not (none-ends (next x) (exact-word kinds words x) alone))
+
+    name-specified : eqb (exact-word kinds words x) no-word ≡ true → specifiers-from lang kinds words x no-word at-first ≡ true
+    unfolding specifiers-end
+    name-specified n =
+        from-only (at-name lang no-word (shape kinds x) (exact-word kinds words x) _ _ none-seen false false false false true none-first (rw (i, n) refl))
+        ∙ rw (← none-first)
+
+    builtin-specified : is-c-builtin-type-word (exact-word kinds words x) ≡ true → specifiers-from lang kinds words x no-word at-first ≡ true
+    unfolding specifiers-end builtin-word on-if shape
+    builtin-specified n =
+        let w : ℕ = exact-word kinds words x in
+        from-only
+        (sym (at-identifier lang no-word (shape kinds x) w (shape kinds (next x)) (exact-word kinds words (next x)) at-first i)
+        ∙ sym (word-2 lang w (shape kinds (next x)) at-first (rw alone (and-false (w is-one-of parenthesis-words))) n))
+        ∙ rw (no-builtin-once-more none-seen w (counted-first w (builtin-counted w n)), n, and-false (no-builtin-word none-seen)) (one-alone w n)
+
+    pub word-specified : (eqb (exact-word kinds words x) no-word || is-c-builtin-type-word (exact-word kinds words x)) ≡ true → validate-c-decl-specifiers lang kinds words x ≡ true
+    unfolding validate-c-decl-specifiers
+    word-specified y =
+        elim (eqb (exact-word kinds words x) no-word) as (λ t. eqb (exact-word kinds words x) no-word ≡ t → validate-c-decl-specifiers lang kinds words x ≡ true) [
+          | true ↦ λ n. name-specified n
+          | false ↦ λ n. builtin-specified (rw n at y)
+        ] refl
 
 -- The word that a move counts has a count.
 pub counted-known : {seen : List ℕ} {r : SpecifierMove} {m : Move Specifiers} {v : ℕ} {g : SpecifierFlags} → SpecifierMoves seen r m → r ≡ M.Count v g → v < counted-words
