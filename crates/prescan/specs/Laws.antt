@@ -1,5 +1,6 @@
 pub mod Numbered
 pub mod Outside
+pub mod Ordinary
 pub mod Steps
 pub mod Taking
 pub mod RowEnd

@@ -4,6 +4,7 @@ use crate::boundary::Prescanned;
 use crate::boundary::check_row_end;
 use crate::scan::ScanState;
 use crate::scan::ScanStep;
+use crate::scan::is_ordinary;
 use crate::scan::take;
 use rows::answer::NO_TOKEN;
 use rows::answer::TypeNameError;
@@ -30,6 +31,19 @@ pub fn prescan_row(language: u8, kinds: &[u8], stack: &mut [u32]) -> Prescanned
     };
     let mut at = 0;
     while at < kinds.len() {
+        let kind = kinds[at];
+        // Most tokens change neither brackets nor angles.
+        if kind == kinds::IDENTIFIER {
+            state.word = true;
+            state.last = kind;
+            at += 1;
+            continue;
+        }
+        if is_ordinary(kind) {
+            state.last = kind;
+            at += 1;
+            continue;
+        }
         let step = take(language, kinds, stack, state, at);
         match step {
             ScanStep::Refused(error) => return Prescanned::Refused(error),

@@ -7,12 +7,49 @@ use rows::answer::TypeNameError;
 use rows::kinds;
 use rows::languages;
 ghost use mathlib.Core.Path.{_≡_};
+ghost use mathlib.Core.Bool.{not};
 ghost use Prim.Native.Nat.{_+_, _<_, _≤_, _^_};
 ghost use lib.ListN.{getD, length, set};
-ghost use mathlib.Core.List.{[]};
+ghost use mathlib.Core.List.{[], _∷_};
+ghost use Rattle.rows.specs.Kinds.{Comma, End, Greater, LeftBracket, LeftParen, Less, NoToken, RightBracket, RightParen, ShiftRight};
+ghost use Rattle.rows.specs.Notation.{_is-one-of_};
 ghost use Rattle.prescan.specs.Matcher.{same};
 ghost use Rattle.prescan.specs.Prescan.{close, opens-angle, outside-brackets, passed, take-token};
 ghost use Rattle.prescan.specs.ScanState.{Counted, Past, Sound, Steps, Takes, delimiter-of, openers, scan-of};
+
+// A token of this kind opens, closes and parts nothing, wherever it stands.
+pub fn is_ordinary(kind: u8) -> bool
+    ensures { λ r. ⌜ r ≡ not (kind is-one-of (LeftParen ∷ LeftBracket ∷ RightParen ∷ RightBracket ∷ Less ∷ Greater ∷ ShiftRight ∷ Comma ∷ End ∷ NoToken ∷ [])) ⌝ }
+{
+    if kind == kinds::LEFT_PAREN {
+        return false;
+    }
+    if kind == kinds::LEFT_BRACKET {
+        return false;
+    }
+    if kind == kinds::RIGHT_PAREN {
+        return false;
+    }
+    if kind == kinds::RIGHT_BRACKET {
+        return false;
+    }
+    if kind == kinds::LESS {
+        return false;
+    }
+    if kind == kinds::GREATER {
+        return false;
+    }
+    if kind == kinds::SHIFT_RIGHT {
+        return false;
+    }
+    if kind == kinds::COMMA {
+        return false;
+    }
+    if kind == kinds::END {
+        return false;
+    }
+    kind != kinds::NO_TOKEN_KIND
+}
 
 // What is known after some tokens. `depth` brackets are open: their token numbers stand in a lent stack.
 pub struct ScanState {

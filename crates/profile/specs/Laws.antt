@@ -1,3 +1,4 @@
 pub mod Lacking
 pub mod Monotone
 pub mod SomeToken
+pub mod Between

@@ -5,11 +5,13 @@ use rows::word_numbers;
 use rows::word_numbers::exactly;
 use rows::word_numbers::ignoring_case;
 ghost use mathlib.Core.Path.{_≡_};
+ghost use mathlib.Core.Bool.{_&&_};
 ghost use Prim.Native.Nat.{_≤_};
 ghost use lib.ListN.{getD, length};
+ghost use lib.Dec.{leb};
 ghost use Rattle.rows.specs.Format.{most-tokens};
 ghost use Rattle.rows.specs.Words.{no-word};
-ghost use Rattle.profile.specs.Profile.{compared, kind-is, identifier-is, ignores-case, has-kind, has-adjacent-identifiers, has-identifier-call, has-identifier-followed-by-star, has-assumed-rank};
+ghost use Rattle.profile.specs.Profile.{compared, kind-is, identifier-is, ignores-case, has-kind, has-adjacent-identifiers, has-identifier-call, has-identifier-followed-by-star, has-assumed-rank, some-below};
 
 fn kind_is(kinds: &[u8], at: usize, kind: u8) -> bool
     ensures { λ r. ⌜ r ≡ kind-is (now (kinds .entry)) at kind ⌝ }
@@ -140,4 +142,18 @@ pub fn has_assumed_rank(kinds: &[u8]) -> bool
         at += 1;
     }
     false
+}
+
+// A word of the row has one of these numbers. All are looked at, even behind one that has: so the compiler looks at many at once.
+pub fn has_word_between(ignoring: bool, words: &[u8], least: u8, most: u8) -> bool
+    ensures { λ r. ⌜ r ≡ some-below (length (now (words .entry))) (λ at. leb least (compared ignoring (getD (now (words .entry)) at no-word)) && leb (compared ignoring (getD (now (words .entry)) at no-word)) most) ⌝ }
+{
+    let mut found = false;
+    let mut at = 0;
+    while at < words.len() {
+        let word = compared(ignoring, words[at]);
+        found = found | ((least <= word) & (word <= most));
+        at += 1;
+    }
+    found
 }

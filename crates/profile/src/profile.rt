@@ -5,6 +5,7 @@ use crate::features::has_assumed_rank;
 use crate::features::has_identifier_call;
 use crate::features::has_identifier_followed_by_star;
 use crate::features::has_kind;
+use crate::features::has_word_between;
 use crate::features::ignores_case;
 use rows::answer::Feature;
 use rows::kinds::EQUAL;
@@ -30,7 +31,7 @@ use rows::word_numbers::TYPEOF_UNQUAL;
 ghost use mathlib.Core.Path.{_≡_};
 ghost use mathlib.Core.Bool.{_&&_};
 ghost use Prim.Native.Nat.{_≤_};
-ghost use lib.ListN.{length};
+ghost use lib.ListN.{drop, length};
 ghost use lib.Dec.{ltb};
 ghost use Rattle.rows.specs.Format.{most-tokens};
 ghost use Rattle.rows.specs.Languages.{C, Cpp, Fortran};
@@ -98,6 +99,20 @@ fn missing_in_c(ignoring: bool, standard: u8, kinds: &[u8], words: &[u8]) -> Lac
     }
     if lacks_call(ignoring, standard, C11, kinds, words, ATOMIC) {
         return Lack::Lacks(Feature::Atomic);
+    }
+    missing_of_c23(ignoring, standard, kinds, words)
+}
+
+// The same of the features that came with C23, all but C's first two. Most rows have none of their words, whose numbers are side by side: one look tells.
+fn missing_of_c23(ignoring: bool, standard: u8, kinds: &[u8], words: &[u8]) -> Lack
+    requires { ⌜ length (now kinds) ≤ most-tokens ⌝ }
+    ensures { λ r. ⌜ r ≡ lacking ignoring standard (now (kinds .entry)) (now (words .entry)) (drop 2 (features C)) ⌝ }
+{
+    if C23 <= standard {
+        return Lack::Nothing;
+    }
+    if !has_word_between(ignoring, words, TYPEOF, BIT_INT) {
+        return Lack::Nothing;
     }
     if lacks_call(ignoring, standard, C23, kinds, words, BIT_INT) {
         return Lack::Lacks(Feature::BitInt);

@@ -18,6 +18,7 @@ pub mod Allowance
 pub mod Injective
 pub mod Buffer
 pub mod TableWays
+pub mod Ordinary
 pub mod Ahead
 pub mod Reached
 pub mod GroupWays

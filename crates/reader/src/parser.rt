@@ -13,9 +13,9 @@ use crate::tables::argument_ends;
 use crate::tables::group_kind;
 use crate::tables::group_step;
 use crate::tables::is_angle_close;
-use crate::tables::is_plain;
 use crate::tables::kind_at;
 use crate::tables::node_start;
+use prescan::scan::is_ordinary;
 use rows::answer::Open;
 use rows::answer::TypeNameError;
 use rows::kinds;
@@ -113,7 +113,7 @@ fn put_above(
     Reading::Done(next, below + 1)
 }
 
-// A token that is a node by itself.
+// A token that is a node by itself, whatever stands before it.
 fn parse_token(tree: &mut [u32], parser: TypeSyntaxParser) -> Reading
     requires { ⌜ (node-width ≤ length (now tree)) × (parser .cursor < numbers-bound) ⌝ }
     ensures { λ r. ⌜ TokenAnswers parser r (now (tree .entry)) (now (tree .exit)) ⌝ }
@@ -147,6 +147,18 @@ fn parse_group(
     loop {
         let at = now.cursor;
         let kind = kind_at(kinds, at);
+        let start = NODE_WIDTH * nodes;
+        // Most nodes are such a token: they are read without a call.
+        if is_ordinary(kind) || kind == kinds::COMMA {
+            let read = parse_token(&mut tree[start..], now);
+            let Reading::Done(next, more) = read else {
+                return read;
+            };
+            now = next;
+            nodes = nodes + more;
+            after_identifier = kind == kinds::IDENTIFIER;
+            continue;
+        }
         let step = group_step(end, kind, at);
         match step {
             GroupStep::Ends(after) => {
@@ -156,7 +168,6 @@ fn parse_group(
             GroupStep::Stops(error) => return Reading::Stopped(Stop::Refused(error, now.left)),
             GroupStep::Node => {}
         }
-        let start = NODE_WIDTH * nodes;
         let read = parse_node(
             kinds,
             cpp,
@@ -176,27 +187,7 @@ fn parse_group(
 }
 
 // The node at the cursor. `after_identifier`: its left neighbour node is an identifier token.
-// It is short, so that the compiler puts it into the loops and a token by itself needs no call.
 fn parse_node(
-    kinds: &[u8],
-    cpp: bool,
-    tree: &mut [u32],
-    parser: TypeSyntaxParser,
-    after_identifier: bool,
-    lists: usize,
-    nesting: usize,
-) -> Reading
-    requires { ⌜ ParserReady (now kinds) (parser .cursor) lists nesting MAX-NESTING-DEPTH 0 (now tree) × (parser .cursor < length (now kinds)) ⌝ }
-    ensures { λ r. ⌜ NodeAnswers cpp (now (kinds .entry)) lists nesting «after_identifier» parser r (now (tree .exit)) ⌝ }
-{
-    if is_plain(cpp, after_identifier, kind_at(kinds, parser.cursor)) {
-        return parse_token(tree, parser);
-    }
-    parse_inner(kinds, cpp, tree, parser, after_identifier, lists, nesting)
-}
-
-// The same, of any node: a group and a list call the readers of their nodes.
-fn parse_inner(
     kinds: &[u8],
     cpp: bool,
     tree: &mut [u32],
@@ -252,7 +243,7 @@ fn parse_inner(
                 ListReading::Spent => Reading::Stopped(Stop::Spent),
             }
         }
-        Start::Token => parse_token(tree, parser),
+        Start::Token => put_above(tree, TOKEN_NODE, at, begun, 0),
     }
 }
 
@@ -319,13 +310,23 @@ fn parse_template_arguments(
         'nodes: loop {
             let at = now.cursor;
             let kind = kind_at(kinds, at);
+            let start = head + NODE_WIDTH + NODE_WIDTH * inner;
+            if !now.pending_greater && is_ordinary(kind) {
+                let read = parse_token(&mut tree[start..], now);
+                let Reading::Done(next, more) = read else {
+                    return list_reading_of(read);
+                };
+                now = next;
+                inner = inner + more;
+                after_identifier = kind == kinds::IDENTIFIER;
+                continue 'nodes;
+            }
             if argument_ends(lists, kind, now.pending_greater) {
                 break 'nodes;
             }
             if kind == kinds::NO_TOKEN_KIND {
                 break 'arguments ListEnd::Unterminated;
             }
-            let start = head + NODE_WIDTH + NODE_WIDTH * inner;
             let read = parse_node(
                 kinds,
                 cpp,

@@ -4,7 +4,6 @@ pub mod Numbered
 pub mod Bytes
 pub mod Tokens
 pub mod KnownWords
-pub mod KnownTable
 pub mod KnownSearch
 pub mod SameBytes
 pub mod RowEnd

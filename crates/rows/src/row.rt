@@ -5,7 +5,6 @@ use crate::format::Format;
 use crate::format::token_length;
 use crate::token::TokenRecord;
 use crate::token::token_at;
-use crate::words;
 use crate::words::number_of_word;
 ghost use mathlib.Core.Path.{_≡_};
 ghost use Rattle.rows.specs.RowRead.{Reads, ReadsRecords, Room};
@@ -37,11 +36,6 @@ pub fn read_records(
     requires { ⌜ Room (now file) most (now kinds) (now words) (now places) ⌝ }
     ensures { λ r. ⌜ ReadsRecords format (now (file .entry)) begin most (now (kinds .entry)) (now (words .entry)) (now (places .entry)) r (now (kinds .exit)) (now (words .exit)) (now (places .exit)) ⌝ }
 {
-    let texts = words::TEXTS;
-    let numbers = words::NUMBERS;
-    let firsts = words::FIRSTS;
-    let starts = words::STARTS;
-    let shorter = words::SHORTER;
     let plain = token_length(format);
     let mut at = begin;
     let mut count: usize = 0;
@@ -56,14 +50,7 @@ pub fn read_records(
         let word = at + plain;
         let next = at + length;
         kinds[count] = kind;
-        words[count] = number_of_word(
-            &file[word..next],
-            &texts,
-            &numbers,
-            &firsts,
-            &starts,
-            &shorter,
-        );
+        words[count] = number_of_word(&file[word..next]);
         places[count] = at as u32;
         count += 1;
         at = next;

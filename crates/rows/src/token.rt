@@ -11,8 +11,8 @@ use crate::format::token_length;
 use crate::head::AT_KIND;
 use crate::kinds;
 ghost use mathlib.Core.Path.{_≡_};
-ghost use Prim.Native.Nat.{_+_, _≤_};
-ghost use lib.ListN.{length};
+ghost use Prim.Native.Nat.{_+_, _<_, _≤_};
+ghost use lib.ListN.{drop, length, take};
 ghost use Rattle.rows.specs.Format.{bytes-of, token-length};
 ghost use Rattle.rows.specs.Records.{found, in-range, kind-at, length-at, length-fits, little-endian, span-at, word-fits, word-in};
 
@@ -28,8 +28,41 @@ pub enum TokenRecord {
     Malformed,
 }
 
-// Every byte may stand in a word. All are tested, even behind one that may not: so the compiler tests many at once.
-pub fn is_word(word: &[u8]) -> bool
+// The byte at a byte offset may stand in a word.
+fn byte_fits(word: &[u8], at: usize) -> bool
+    requires { ⌜ at < length (now word) ⌝ }
+    ensures { λ r. ⌜ r ≡ in-range (take 1 (drop at (now (word .entry)))) ⌝ }
+{
+    let byte = word[at];
+    (LEAST_WORD_BYTE <= byte) & (byte <= GREATEST_WORD_BYTE)
+}
+
+// The two bytes from a byte offset on may.
+fn two_fit(word: &[u8], at: usize) -> bool
+    requires { ⌜ at + 2 ≤ length (now word) ⌝ }
+    ensures { λ r. ⌜ r ≡ in-range (take 2 (drop at (now (word .entry)))) ⌝ }
+{
+    byte_fits(word, at) & byte_fits(word, at + 1)
+}
+
+// The four bytes from a byte offset on may.
+fn four_fit(word: &[u8], at: usize) -> bool
+    requires { ⌜ at + 4 ≤ length (now word) ⌝ }
+    ensures { λ r. ⌜ r ≡ in-range (take 4 (drop at (now (word .entry)))) ⌝ }
+{
+    two_fit(word, at) & two_fit(word, at + 2)
+}
+
+// The eight bytes from a byte offset on may.
+fn eight_fit(word: &[u8], at: usize) -> bool
+    requires { ⌜ at + 8 ≤ length (now word) ⌝ }
+    ensures { λ r. ⌜ r ≡ in-range (take 8 (drop at (now (word .entry)))) ⌝ }
+{
+    four_fit(word, at) & four_fit(word, at + 4)
+}
+
+// All bytes may. All are tested, even behind one that may not: so the compiler tests many at once.
+fn all_fit(word: &[u8]) -> bool
     ensures { λ r. ⌜ r ≡ in-range (now (word .entry)) ⌝ }
 {
     let mut fits = true;
@@ -40,6 +73,24 @@ pub fn is_word(word: &[u8]) -> bool
         i += 1;
     }
     fits
+}
+
+// Every byte may stand in a word. A first and a last group cover most words and may overlap: they take no loop.
+pub fn is_word(word: &[u8]) -> bool
+    ensures { λ r. ⌜ r ≡ in-range (now (word .entry)) ⌝ }
+{
+    let size = word.len();
+    if size < 4 {
+        return all_fit(word);
+    }
+    if size < 8 {
+        return four_fit(word, 0) & four_fit(word, size - 4);
+    }
+    if size <= 16 {
+        return eight_fit(word, 0) & eight_fit(word, size - 8);
+    }
+    let eights = size - size % 8;
+    all_fit(&word[..eights]) & eight_fit(word, size - 8)
 }
 
 // The number of a span at a byte offset.

@@ -1,23 +1,12 @@
 // The number of a word: a word is compared with the few known words of its length that begin as it does.
 
-use crate::bytes::wide;
-use crate::bytes::wide_two;
 use crate::word_numbers;
 ghost use mathlib.Core.Path.{_≡_};
 ghost use Prim.Native.Nat.{_+_, _≤_};
-ghost use lib.ListN.{drop, length, take};
-ghost use Rattle.rows.specs.Words.{lower, word-number};
-ghost use Rattle.rows.specs.WordSearch.{Tables, compared, texts, texts-length};
-
-const KNOWN_WORDS: usize = 42;
-
-const LONGEST_KNOWN: usize = 16;
-
-// One more than there are lengths of known words, and where the longer ones would begin.
-const WORD_SIZES: usize = 18;
-
-// The bytes of all known words.
-const TEXTS_LENGTH: usize = 307;
+ghost use lib.ListN.{getD, length};
+ghost use Rattle.rows.specs.Notation.{if_then_else_};
+ghost use Rattle.rows.specs.Words.{lower, no-word, other-case, same-exactly, same-ignoring-case, word-number};
+ghost use Rattle.rows.specs.WordSearch.{compared, known-words};
 
 const CAPITAL_A: u8 = 65;
 
@@ -25,129 +14,6 @@ const CAPITAL_Z: u8 = 90;
 
 // From a capital to its small letter.
 const TO_SMALL: u8 = 32;
-
-// The tables are lent to the search: made anew at each use, they would be copied at each use.
-
-// The known words one after another, shorter ones first, those of one length by their numbers.
-pub const TEXTS: [u8; TEXTS_LENGTH] =
-    *b"intvoidboolcharlongenumtype_Boolfloatshortconstunionclassdoublesignedtypeofstructwchar_tchar8_t_Atomic_BitIntcomplexchar16_tchar32_tunsigned_Complexvolatilerestrictnoexceptdecltype__typeoftypenameprecision_Decimal32_Decimal64_Imaginary__restrict__typeof___Decimal128__restrict__typeof_unqualtransaction_safe";
-
-// Their numbers, in that order.
-pub const NUMBERS: [u8; KNOWN_WORDS] = [
-    word_numbers::INT,
-    word_numbers::VOID,
-    word_numbers::BOOL,
-    word_numbers::CHAR,
-    word_numbers::LONG,
-    word_numbers::ENUM,
-    word_numbers::TYPE,
-    word_numbers::C_BOOL,
-    word_numbers::FLOAT,
-    word_numbers::SHORT,
-    word_numbers::CONST,
-    word_numbers::UNION,
-    word_numbers::CLASS,
-    word_numbers::DOUBLE,
-    word_numbers::SIGNED,
-    word_numbers::TYPEOF,
-    word_numbers::STRUCT,
-    word_numbers::WCHAR_T,
-    word_numbers::CHAR8_T,
-    word_numbers::ATOMIC,
-    word_numbers::BIT_INT,
-    word_numbers::COMPLEX,
-    word_numbers::CHAR16_T,
-    word_numbers::CHAR32_T,
-    word_numbers::UNSIGNED,
-    word_numbers::C_COMPLEX,
-    word_numbers::VOLATILE,
-    word_numbers::RESTRICT,
-    word_numbers::NOEXCEPT,
-    word_numbers::DECLTYPE,
-    word_numbers::GNU_TYPEOF,
-    word_numbers::TYPENAME,
-    word_numbers::PRECISION,
-    word_numbers::DECIMAL32,
-    word_numbers::DECIMAL64,
-    word_numbers::IMAGINARY,
-    word_numbers::GNU_RESTRICT,
-    word_numbers::GNU_TYPEOF_CLOSED,
-    word_numbers::DECIMAL128,
-    word_numbers::GNU_RESTRICT_CLOSED,
-    word_numbers::TYPEOF_UNQUAL,
-    word_numbers::TRANSACTION_SAFE,
-];
-
-// Their first bytes in lower case.
-pub const FIRSTS: [u8; KNOWN_WORDS] = *b"ivbclet_fscucdstswc__cccu_vrnd_tp_______tt";
-
-// Where each begins in TEXTS.
-pub const STARTS: [u16; KNOWN_WORDS] = [
-    0,
-    3,
-    7,
-    11,
-    15,
-    19,
-    23,
-    27,
-    32,
-    37,
-    42,
-    47,
-    52,
-    57,
-    63,
-    69,
-    75,
-    81,
-    88,
-    95,
-    102,
-    109,
-    116,
-    124,
-    132,
-    140,
-    148,
-    156,
-    164,
-    172,
-    180,
-    188,
-    196,
-    205,
-    215,
-    225,
-    235,
-    245,
-    255,
-    266,
-    278,
-    291,
-];
-
-// For each length, how many known words are shorter.
-pub const SHORTER: [u8; WORD_SIZES] = [
-    0,
-    0,
-    0,
-    0,
-    1,
-    7,
-    13,
-    17,
-    22,
-    32,
-    33,
-    38,
-    39,
-    40,
-    41,
-    41,
-    41,
-    42,
-];
 
 pub enum Comparison {
     Exact,
@@ -167,16 +33,16 @@ fn lower_case(byte: u8) -> u8
     byte + TO_SMALL
 }
 
-// A word beside the known text of the same length that begins at a place of TEXTS.
-fn compare(word: &[u8], known: &[u8; TEXTS_LENGTH], begin: usize) -> Comparison
-    requires { ⌜ (begin + length (now word) ≤ texts-length) × (now known ≡ texts) ⌝ }
-    ensures { λ r. ⌜ r ≡ compared (now (word .entry)) (take (length (now (word .entry))) (drop begin texts)) ⌝ }
+// A word beside a known one of the same length.
+fn compare(word: &[u8], known: &[u8]) -> Comparison
+    requires { ⌜ length (now known) ≡ length (now word) ⌝ }
+    ensures { λ r. ⌜ r ≡ compared (now (word .entry)) (now (known .entry)) ⌝ }
 {
     let mut exact = true;
     let mut i = 0;
     while i < word.len() {
         let byte = word[i];
-        let other = known[begin + i];
+        let other = known[i];
         if byte == other {
             i += 1;
             continue;
@@ -193,42 +59,247 @@ fn compare(word: &[u8], known: &[u8; TEXTS_LENGTH], begin: usize) -> Comparison
     Comparison::OtherCase
 }
 
+// The number of a known word of the same length if the word is that one, exactly or in another case.
+fn if_is(word: &[u8], known: &[u8], number: u8) -> u8
+    requires { ⌜ (length (now known) ≡ length (now word)) × (number ≤ known-words) ⌝ }
+    ensures { λ r. ⌜ r ≡ (if same-exactly (now (word .entry)) (now (known .entry)) then number else if same-ignoring-case (now (word .entry)) (now (known .entry)) then number + other-case else no-word) ⌝ }
+{
+    let comparison = compare(word, known);
+    match comparison {
+        Comparison::Exact => number,
+        Comparison::OtherCase => number + word_numbers::OTHER_CASE,
+        Comparison::Different => word_numbers::NO_WORD,
+    }
+}
+
+// The number of a word of 3 bytes that begins with `first` in lower case.
+fn of_3(word: &[u8], first: u8) -> u8
+    requires { ⌜ (length (now word) ≡ 3) × (first ≡ lower (getD (now word) 0 0)) ⌝ }
+    ensures { λ r. ⌜ r ≡ word-number (now (word .entry)) ⌝ }
+{
+    match first {
+        b'i' => if_is(word, b"int", word_numbers::INT),
+        _ => word_numbers::NO_WORD,
+    }
+}
+
+// The same, of 4 bytes.
+fn of_4(word: &[u8], first: u8) -> u8
+    requires { ⌜ (length (now word) ≡ 4) × (first ≡ lower (getD (now word) 0 0)) ⌝ }
+    ensures { λ r. ⌜ r ≡ word-number (now (word .entry)) ⌝ }
+{
+    match first {
+        b'v' => if_is(word, b"void", word_numbers::VOID),
+        b'b' => if_is(word, b"bool", word_numbers::BOOL),
+        b'c' => if_is(word, b"char", word_numbers::CHAR),
+        b'l' => if_is(word, b"long", word_numbers::LONG),
+        b'e' => if_is(word, b"enum", word_numbers::ENUM),
+        b't' => if_is(word, b"type", word_numbers::TYPE),
+        _ => word_numbers::NO_WORD,
+    }
+}
+
+// The same, of 5 bytes.
+fn of_5(word: &[u8], first: u8) -> u8
+    requires { ⌜ (length (now word) ≡ 5) × (first ≡ lower (getD (now word) 0 0)) ⌝ }
+    ensures { λ r. ⌜ r ≡ word-number (now (word .entry)) ⌝ }
+{
+    match first {
+        b'_' => if_is(word, b"_Bool", word_numbers::C_BOOL),
+        b'f' => if_is(word, b"float", word_numbers::FLOAT),
+        b's' => if_is(word, b"short", word_numbers::SHORT),
+        b'c' => {
+            let found = if_is(word, b"const", word_numbers::CONST);
+            if found != word_numbers::NO_WORD {
+                return found;
+            }
+            if_is(word, b"class", word_numbers::CLASS)
+        }
+        b'u' => if_is(word, b"union", word_numbers::UNION),
+        _ => word_numbers::NO_WORD,
+    }
+}
+
+// The same, of 6 bytes.
+fn of_6(word: &[u8], first: u8) -> u8
+    requires { ⌜ (length (now word) ≡ 6) × (first ≡ lower (getD (now word) 0 0)) ⌝ }
+    ensures { λ r. ⌜ r ≡ word-number (now (word .entry)) ⌝ }
+{
+    match first {
+        b'd' => if_is(word, b"double", word_numbers::DOUBLE),
+        b's' => {
+            let found = if_is(word, b"signed", word_numbers::SIGNED);
+            if found != word_numbers::NO_WORD {
+                return found;
+            }
+            if_is(word, b"struct", word_numbers::STRUCT)
+        }
+        b't' => if_is(word, b"typeof", word_numbers::TYPEOF),
+        _ => word_numbers::NO_WORD,
+    }
+}
+
+// The same, of 7 bytes.
+fn of_7(word: &[u8], first: u8) -> u8
+    requires { ⌜ (length (now word) ≡ 7) × (first ≡ lower (getD (now word) 0 0)) ⌝ }
+    ensures { λ r. ⌜ r ≡ word-number (now (word .entry)) ⌝ }
+{
+    match first {
+        b'w' => if_is(word, b"wchar_t", word_numbers::WCHAR_T),
+        b'c' => {
+            let found = if_is(word, b"char8_t", word_numbers::CHAR8_T);
+            if found != word_numbers::NO_WORD {
+                return found;
+            }
+            if_is(word, b"complex", word_numbers::COMPLEX)
+        }
+        b'_' => {
+            let found = if_is(word, b"_Atomic", word_numbers::ATOMIC);
+            if found != word_numbers::NO_WORD {
+                return found;
+            }
+            if_is(word, b"_BitInt", word_numbers::BIT_INT)
+        }
+        _ => word_numbers::NO_WORD,
+    }
+}
+
+// The same, of 8 bytes.
+fn of_8(word: &[u8], first: u8) -> u8
+    requires { ⌜ (length (now word) ≡ 8) × (first ≡ lower (getD (now word) 0 0)) ⌝ }
+    ensures { λ r. ⌜ r ≡ word-number (now (word .entry)) ⌝ }
+{
+    match first {
+        b'c' => {
+            let found = if_is(word, b"char16_t", word_numbers::CHAR16_T);
+            if found != word_numbers::NO_WORD {
+                return found;
+            }
+            if_is(word, b"char32_t", word_numbers::CHAR32_T)
+        }
+        b'u' => if_is(word, b"unsigned", word_numbers::UNSIGNED),
+        b'_' => {
+            let found = if_is(word, b"_Complex", word_numbers::C_COMPLEX);
+            if found != word_numbers::NO_WORD {
+                return found;
+            }
+            if_is(word, b"__typeof", word_numbers::GNU_TYPEOF)
+        }
+        b'v' => if_is(word, b"volatile", word_numbers::VOLATILE),
+        b'r' => if_is(word, b"restrict", word_numbers::RESTRICT),
+        b'n' => if_is(word, b"noexcept", word_numbers::NOEXCEPT),
+        b'd' => if_is(word, b"decltype", word_numbers::DECLTYPE),
+        b't' => if_is(word, b"typename", word_numbers::TYPENAME),
+        _ => word_numbers::NO_WORD,
+    }
+}
+
+// The same, of 9 bytes.
+fn of_9(word: &[u8], first: u8) -> u8
+    requires { ⌜ (length (now word) ≡ 9) × (first ≡ lower (getD (now word) 0 0)) ⌝ }
+    ensures { λ r. ⌜ r ≡ word-number (now (word .entry)) ⌝ }
+{
+    match first {
+        b'p' => if_is(word, b"precision", word_numbers::PRECISION),
+        _ => word_numbers::NO_WORD,
+    }
+}
+
+// The same, of 10 bytes.
+fn of_10(word: &[u8], first: u8) -> u8
+    requires { ⌜ (length (now word) ≡ 10) × (first ≡ lower (getD (now word) 0 0)) ⌝ }
+    ensures { λ r. ⌜ r ≡ word-number (now (word .entry)) ⌝ }
+{
+    match first {
+        b'_' => {
+            let found = if_is(word, b"_Decimal32", word_numbers::DECIMAL32);
+            if found != word_numbers::NO_WORD {
+                return found;
+            }
+            let found2 = if_is(word, b"_Decimal64", word_numbers::DECIMAL64);
+            if found2 != word_numbers::NO_WORD {
+                return found2;
+            }
+            let found3 = if_is(word, b"_Imaginary", word_numbers::IMAGINARY);
+            if found3 != word_numbers::NO_WORD {
+                return found3;
+            }
+            let found4 = if_is(word, b"__restrict", word_numbers::GNU_RESTRICT);
+            if found4 != word_numbers::NO_WORD {
+                return found4;
+            }
+            if_is(word, b"__typeof__", word_numbers::GNU_TYPEOF_CLOSED)
+        }
+        _ => word_numbers::NO_WORD,
+    }
+}
+
+// The same, of 11 bytes.
+fn of_11(word: &[u8], first: u8) -> u8
+    requires { ⌜ (length (now word) ≡ 11) × (first ≡ lower (getD (now word) 0 0)) ⌝ }
+    ensures { λ r. ⌜ r ≡ word-number (now (word .entry)) ⌝ }
+{
+    match first {
+        b'_' => if_is(word, b"_Decimal128", word_numbers::DECIMAL128),
+        _ => word_numbers::NO_WORD,
+    }
+}
+
+// The same, of 12 bytes.
+fn of_12(word: &[u8], first: u8) -> u8
+    requires { ⌜ (length (now word) ≡ 12) × (first ≡ lower (getD (now word) 0 0)) ⌝ }
+    ensures { λ r. ⌜ r ≡ word-number (now (word .entry)) ⌝ }
+{
+    match first {
+        b'_' => if_is(word, b"__restrict__", word_numbers::GNU_RESTRICT_CLOSED),
+        _ => word_numbers::NO_WORD,
+    }
+}
+
+// The same, of 13 bytes.
+fn of_13(word: &[u8], first: u8) -> u8
+    requires { ⌜ (length (now word) ≡ 13) × (first ≡ lower (getD (now word) 0 0)) ⌝ }
+    ensures { λ r. ⌜ r ≡ word-number (now (word .entry)) ⌝ }
+{
+    match first {
+        b't' => if_is(word, b"typeof_unqual", word_numbers::TYPEOF_UNQUAL),
+        _ => word_numbers::NO_WORD,
+    }
+}
+
+// The same, of 16 bytes.
+fn of_16(word: &[u8], first: u8) -> u8
+    requires { ⌜ (length (now word) ≡ 16) × (first ≡ lower (getD (now word) 0 0)) ⌝ }
+    ensures { λ r. ⌜ r ≡ word-number (now (word .entry)) ⌝ }
+{
+    match first {
+        b't' => if_is(word, b"transaction_safe", word_numbers::TRANSACTION_SAFE),
+        _ => word_numbers::NO_WORD,
+    }
+}
+
 // The number of a word: n for known word n, n + 128 for known word n in another case, 0 for every other word.
-pub fn number_of_word(
-    word: &[u8],
-    known: &[u8; TEXTS_LENGTH],
-    numbers: &[u8; KNOWN_WORDS],
-    firsts: &[u8; KNOWN_WORDS],
-    starts: &[u16; KNOWN_WORDS],
-    shorter: &[u8; WORD_SIZES],
-) -> u8
-    requires { ⌜ Tables (now known) (now numbers) (now firsts) (now starts) (now shorter) ⌝ }
+pub fn number_of_word(word: &[u8]) -> u8
     ensures { λ r. ⌜ r ≡ word-number (now (word .entry)) ⌝ }
 {
     let size = word.len();
     if size == 0 {
         return word_numbers::NO_WORD;
     }
-    if LONGEST_KNOWN < size {
-        return word_numbers::NO_WORD;
-    }
     let first = lower_case(word[0]);
-    let end = wide(shorter[size + 1]);
-    let mut row = wide(shorter[size]);
-    while row < end {
-        if firsts[row] != first {
-            row += 1;
-            continue;
-        }
-        let begin = wide_two(starts[row]);
-        let comparison = compare(word, known, begin);
-        match comparison {
-            Comparison::Exact => return numbers[row],
-            Comparison::OtherCase => return numbers[row] + word_numbers::OTHER_CASE,
-            Comparison::Different => {
-                row += 1;
-            }
-        }
+    match size {
+        3 => of_3(word, first),
+        4 => of_4(word, first),
+        5 => of_5(word, first),
+        6 => of_6(word, first),
+        7 => of_7(word, first),
+        8 => of_8(word, first),
+        9 => of_9(word, first),
+        10 => of_10(word, first),
+        11 => of_11(word, first),
+        12 => of_12(word, first),
+        13 => of_13(word, first),
+        16 => of_16(word, first),
+        _ => word_numbers::NO_WORD,
     }
-    word_numbers::NO_WORD
 }

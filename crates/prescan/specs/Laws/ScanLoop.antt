@@ -2,22 +2,31 @@
 -- Assumes nothing.
 use Prim.Native.Nat.{ℕ, zero, suc, _+_, _-_, _≤_, _<_, _^_}
 use mathlib.Core.Path.{_≡_, refl, sym, ap, subst, _∙_}
-use mathlib.Core.Bool.{Bool, true, false}
+use mathlib.Core.Bool.{Bool, true, false, _||_}
 use mathlib.Core.List.{List, [], _∷_}
 use native.Mathlib.Omega.{arith}
 use native.Mathlib.Numerals.{add-one}
 use lib.ListN.{length, getD, drop, drop-of-length-le}
 use lib.Seq.{drop-cons}
+use borrow.Author.Tests.{eq-eqb, ne-eqb}
+use Rattle.rows.specs.Kinds.{Identifier}
+use Rattle.rows.specs.Laws.Tests.{or-false}
 use Rattle.rows.specs.declared.answer.TypeNameError.{TypeNameError}
 use Rattle.rows.specs.declared.answer.TypeNameError.the-variants.{Empty}
-use Rattle.prescan.specs.Prescan.{Scan, Scanned, passed, refused, start, take-token, scan, row-end, at-row-end, prescan}
-use Rattle.prescan.specs.ScanState.{openers, scan-of, Sound, outcome-of, StillSound, Takes}
+use Rattle.prescan.specs.Prescan.{Scan, Scanned, passed, refused, start, past, take-token, scan, row-end, at-row-end, prescan}
+use Rattle.prescan.specs.ScanState.{openers, scan-of, Past, Sound, outcome-of, StillSound, Takes}
+use Rattle.prescan.specs.Laws.Ordinary.{Ordinary, identifier-ordinary}
+use Rattle.prescan.specs.Laws.Taking.{on-past, ordinary-taken}
 use Rattle.prescan.specs.Prescanned.{Same, PrescanSays}
 use Rattle.prescan.specs.declared.boundary.Prescanned.{Prescanned}
 use Rattle.prescan.specs.declared.boundary.Prescanned.the-variants.{Passed, Refused}
 use Rattle.prescan.specs.declared.scan.ScanState.{ScanState}
 use Rattle.prescan.specs.declared.scan.ScanStep.{ScanStep}
 use Rattle.prescan.specs.declared.scan.ScanStep.the-variants as Step
+
+or-true : (b : Bool) → true ≡ (b || true)
+or-true true = refl
+or-true false = refl
 
 module _ (language : ℕ) where
   -- After a fault nothing changes.
@@ -60,6 +69,20 @@ module _ (language : ℕ) where
     pub loop-goes-on : at < length kinds → {stack′ : List ℕ} {s′ : ScanState}
         → Takes kinds stack′ at (Step.On s′) (take-token language (getD kinds at 0) at (passed (scan-of (openers kinds stack (s .depth)) s))) → ScanLoop kinds stack′ s′ (at + 1)
     loop-goes-on p t = record { some = l .some; sound = rw add-one (t .sound); is = taken-on p ∙ rw (← t .says, add-one) refl }
+
+    -- A token of an ordinary kind: the state keeps its brackets and angles.
+    ordinary-on : at < length kinds → Ordinary (getD kinds at 0) → {s′ : ScanState} → Past s (getD kinds at 0) (s .depth) (s .angles) (s .first) s′ → ScanLoop kinds stack s′ (at + 1)
+    ordinary-on p o t = loop-goes-on p (on-past (l .sound) p t (omega arith) (omega (arith, l .sound .angles)) (ordinary-taken language kinds stack s (getD kinds at 0) at o))
+
+    pub loop-identifier : at < length kinds → getD kinds at 0 ≡ Identifier
+        → ScanLoop kinds stack (record { depth = s .depth; angles = s .angles; first = s .first; word = true; last = getD kinds at 0 }) (at + 1)
+    unfolding past
+    loop-identifier p i = ordinary-on p (identifier-ordinary i) (record { same-depth = refl; is = λ held. rw (eq-eqb (getD kinds at 0) Identifier i, ← or-true (s .word)) })
+
+    pub loop-ordinary : at < length kinds → (getD kinds at 0 ≡ Identifier → ⊥) → Ordinary (getD kinds at 0)
+        → ScanLoop kinds stack (record { depth = s .depth; angles = s .angles; first = s .first; word = s .word; last = getD kinds at 0 }) (at + 1)
+    unfolding past
+    loop-ordinary p i o = ordinary-on p o (record { same-depth = refl; is = λ held. rw (ne-eqb (getD kinds at 0) Identifier i, or-false (s .word)) })
 
     pub loop-ends : length kinds ≤ at → (r : Prescanned)
         → PrescanSays r (row-end language kinds (openers kinds stack (s .depth)) (scan-of (openers kinds stack (s .depth)) s)) → PrescanSays r (prescan language kinds)

@@ -10,8 +10,8 @@ use borrow.Author.Tests.{eq-eqb, ne-eqb, eqb-true, eqb-false}
 use lib.ListN.{length, getD, set, length-set}
 use lib.Dec.{eqb}
 use lib.Seq.{getD-set-same, getD-set-other}
-use Rattle.rows.specs.Notation.{if_then_else_}
-use Rattle.rows.specs.Kinds.{LeftParen, RightParen, LeftBracket, RightBracket, End}
+use Rattle.rows.specs.Notation.{if_then_else_, _is-one-of_}
+use Rattle.rows.specs.Kinds.{LeftParen, RightParen, LeftBracket, RightBracket, Comma, Less, Greater, ShiftRight, End}
 use Rattle.rows.specs.declared.answer.Delimiter.{Delimiter}
 use Rattle.rows.specs.declared.answer.Delimiter.the-variants.{Parenthesis, Bracket}
 use Rattle.rows.specs.declared.answer.Open.the-variants.{Nothing, Opened}
@@ -20,6 +20,8 @@ use Rattle.rows.specs.declared.answer.TypeNameError.the-variants.{UnexpectedClo
 use Rattle.prescan.specs.Matcher.{Role, opens, closes, neither, role, same, Opener}
 use Rattle.prescan.specs.Prescan.{Scan, Scanned, passed, refused, past, close, outside-brackets, no-bracket, in-role, take-token}
 use Rattle.prescan.specs.ScanState.{delimiter-of, openers, scan-of, result-of, Keeps, Past, Steps, Sound, outcome-of, StillSound, Takes}
+use Rattle.prescan.specs.Laws.Ordinary.{Ordinary}
+use Rattle.prescan.specs.Laws.Outside.{other-passes}
 use Rattle.prescan.specs.declared.scan.ScanState.{ScanState}
 use Rattle.prescan.specs.declared.scan.ScanStep.{ScanStep}
 use Rattle.prescan.specs.declared.scan.ScanStep.the-variants.{On, Refused}
@@ -120,6 +122,17 @@ module _ (language : ℕ) (kinds stack : List ℕ) (s : ScanState) (k at : ℕ) 
     pub outside-taken : s .depth ≡ 0 → taken ≡ outside-brackets language k at (scan-of [] s)
     unfolding openers no-bracket
     outside-taken p = no-bracket-taken ∙ rw p refl
+
+  -- A token of an ordinary kind, inside brackets or not.
+  pub ordinary-taken : Ordinary k → taken ≡ passed (past k (scan-of [] s) (openers kinds stack (s .depth)) (s .angles) (s .first))
+  unfolding openers no-bracket past _is-one-of_
+  ordinary-taken o =
+      no-bracket-taken (o .apart LeftParen refl) (o .apart LeftBracket refl) (o .apart RightParen refl) (o .apart RightBracket refl) (o .apart End refl)
+      ∙ anywhere (s .depth)
+    where
+      anywhere : (n : ℕ) → no-bracket language k at (openers kinds stack n) (scan-of (openers kinds stack n) s) ≡ passed (past k (scan-of [] s) (openers kinds stack n) (s .angles) (s .first))
+      anywhere zero = other-passes language k at (scan-of [] s) (o .apart Less refl) (o .apart Greater refl) (o .apart ShiftRight refl) (o .apart Comma refl)
+      anywhere (suc n) = refl
 
   -- ---- an opener, put on the stack
 

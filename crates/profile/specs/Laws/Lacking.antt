@@ -84,6 +84,26 @@ module _ (ignoring : Bool) (standard : ℕ) (kinds words : List ℕ) where
   unfolding lacking
   lacks-nothing = refl
 
+  -- Every feature of the list is there,
+  abbrev AllThere : List Since → Type 0
+  AllThere [] = Unit {0}
+  AllThere (s ∷ ss) = (s .standard ≤ standard) × AllThere ss
+
+  pub all-there : (ss : List Since) → AllThere ss → Nothing ≡ lacking ignoring standard kinds words ss
+  unfolding lacking
+  all-there [] l = refl
+  all-there (s ∷ ss) l = lacks-later (s .feature) (s .standard) ss (sym (is-there (uses ignoring kinds words (s .feature)) standard (s .standard) (l .0))) (all-there ss (l .1))
+
+  -- or none is used.
+  abbrev NoneUsed : List Since → Type 0
+  NoneUsed [] = Unit {0}
+  NoneUsed (s ∷ ss) = (uses ignoring kinds words (s .feature) ≡ false) × NoneUsed ss
+
+  pub none-used : (ss : List Since) → NoneUsed ss → Nothing ≡ lacking ignoring standard kinds words ss
+  unfolding lacking
+  none-used [] u = refl
+  none-used (s ∷ ss) u = lacks-later (s .feature) (s .standard) ss (rw (u .0) refl) (none-used ss (u .1))
+
 -- Case is ignored as the code found it.
 pub lacking-as : {r : Lack} {i j : Bool} (standard : ℕ) (kinds words : List ℕ) (ss : List Since) → i ≡ j → r ≡ lacking i standard kinds words ss
     → r ≡ lacking j standard kinds words ss

@@ -22,7 +22,7 @@ or-false a b e f = rw e f
 
 module _ (p : ℕ → Bool) where
   -- A place that passes is found by whoever looks further.
-  found-below : (at n : ℕ) → at < n → p at ≡ true → some-below n p ≡ true
+  pub found-below : (at n : ℕ) → at < n → p at ≡ true → some-below n p ≡ true
   unfolding some-below
   found-below at zero l e = absurd (omega arith)
   found-below at (suc n) l e =

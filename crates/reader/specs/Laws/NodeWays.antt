@@ -2,10 +2,9 @@
 -- Assumes nothing.
 use Prim.Native.Nat.{ℕ, suc, _+_, _-_, _≤_, _<_}
 use mathlib.Core.Path.{_≡_, refl, sym, ap, subst, _∙_}
-use mathlib.Core.Logic.{_≢_, ⊎-elim}
-use mathlib.Core.Bool.{Bool, true, false, true≢false, _&&_}
-use mathlib.Core.List.{List, [], _∷_, _++_}
-use types.Run.{OneOf}
+use mathlib.Core.Logic.{_≢_}
+use mathlib.Core.Bool.{Bool, true, false, _&&_}
+use mathlib.Core.List.{List, _∷_, _++_}
 use native.Mathlib.Omega.{arith}
 use borrow.Author.Tests.{ne-eqb}
 use lib.ListN.{length, take, drop}
@@ -16,7 +15,7 @@ use Rattle.rows.specs.declared.answer.Delimiter.{Delimiter}
 use Rattle.rows.specs.declared.answer.Open.the-variants.{Opened}
 use Rattle.reader.specs.Nodes.{NodeKind, T-node, L-node, Nodes, none, number, count, node-width}
 use Rattle.reader.specs.Reading.{Region, list, Fault, Next, token, starts, kindAt, MAX-NESTING-DEPTH, down, go, read}
-use Rattle.reader.specs.Tables.{region-of, node-of, started, takes-token}
+use Rattle.reader.specs.Tables.{region-of, node-of, started}
 use Rattle.reader.specs.ReaderSays.{Told, Denied, GroupAnswers, Found, NodeSays, NodeAnswers, TokenSays, TokenAnswers, ListSays, ListAnswers, region-due, node-due, past}
 use Rattle.reader.specs.Allowance.{Limited, done, denied, spent, reading-within, behind}
 use Rattle.reader.specs.Laws.Allowance.{on-done, Costs, limited-token, limited-group, limited-angle, none-left}
@@ -62,32 +61,6 @@ pub started-so : (cpp after-identifier : Bool) {k k′ : ℕ} {s s′ : Start} �
 started-so cpp after-identifier {k} {k′} {s} {s′} ke e h =
     subst (λ (j : ℕ). started j s′ ≡ starts cpp after-identifier j) ke (subst (λ (x : Start). started k x ≡ starts cpp after-identifier k) e h)
 
-no-token-taken : (k : ℕ) (tag : Start → ℕ) → tag Start.Token ≡ 2 → (s : Start) → OneOf (0 ∷ 1 ∷ []) (tag s) → false ≡ takes-token (started k s)
-unfolding started takes-token
-no-token-taken k tag z (Start.Group d) o = refl
-no-token-taken k tag z Start.Angle o = refl
-no-token-taken k tag z Start.Token o = ⊎-elim (λ e. absurd (omega (arith, z, e))) (λ e. absurd (omega (arith, z, e))) o
-
--- A node that begins as a token, by the code's number `tag` of each case, is taken as a token, and no other is.
-module _ (cpp after-identifier : Bool) (k : ℕ) {s : Start} (h : started k s ≡ starts cpp after-identifier k) where
-  pub by-token : s ≡ Start.Token → true ≡ takes-token (starts cpp after-identifier k)
-  unfolding started takes-token
-  by-token e = ap (λ (x : Start). takes-token (started k x)) (sym e) ∙ ap takes-token h
-
-  pub by-no-token : (tag : Start → ℕ) → tag Start.Token ≡ 2 → OneOf (0 ∷ 1 ∷ []) (tag s) → false ≡ takes-token (starts cpp after-identifier k)
-  by-no-token tag z o = no-token-taken k tag z s o ∙ ap takes-token h
-
--- What is taken as a token begins as one.
-pub plain-started : (cpp after-identifier : Bool) (k : ℕ) {r : Bool} → r ≡ takes-token (starts cpp after-identifier k) → r ≡ true
-    → started k Start.Token ≡ starts cpp after-identifier k
-unfolding starts started takes-token
-plain-started cpp after-identifier k h e =
-    let Plain : Next → Type 0 = λ x. takes-token x ≡ true → token (eqb k Identifier) ≡ x in
-    by-if Plain (eqb k LeftParen) (λ _ z. absurd (true≢false (sym z))) (λ _.
-    by-if Plain (eqb k LeftBracket) (λ _ z. absurd (true≢false (sym z))) λ _.
-    by-if Plain (eqb k Less && cpp && after-identifier) (λ _ z. absurd (true≢false (sym z))) λ _ _. refl)
-    (sym h ∙ e)
-
 pub past-cursor : {b : TypeSyntaxParser} (p : TypeSyntaxParser) (left : ℕ) → b ≡ past p left → b .cursor ≡ p .cursor + 1
 past-cursor p left e = ap (λ (x : TypeSyntaxParser). x .cursor) e
 
@@ -125,7 +98,7 @@ module _ (cpp : Bool) (row : List ℕ) (lists nesting : ℕ) (after-identifier :
         ap (λ (x : Next). gone l (p .left) x) (sym e) ∙ ap (λ (x : ℕ). gone l x nx) s
 
     -- A token by itself.
-    node-token : {r buf : List ℕ} → started kind Start.Token ≡ starts cpp after-identifier kind → at < length row
+    pub node-token : {r buf : List ℕ} → started kind Start.Token ≡ starts cpp after-identifier kind → at < length row
         → buf ≡ 0 ∷ at ∷ 1 ∷ r → Found cpp row lists nesting after-identifier p b 1 buf
     unfolding started count number
     node-token {buf = buf} e here w =

@@ -1,21 +1,19 @@
--- A search among the known words of one length gives a word's number.
+-- The known words of a word's length that begin as it does give its number.
 -- Assumes nothing.
-use Prim.Native.Nat.{ℕ, zero, suc, _+_, _-_, _≤_, _<_}
-use mathlib.Core.Path.{_≡_, refl, sym, ap, subst, _∙_}
+use Prim.Native.Nat.{ℕ, suc, _+_, _<_}
+use mathlib.Core.Path.{_≡_, refl, sym, ap, _∙_}
 use mathlib.Core.Bool.{Bool, true, false, not, _&&_}
-use mathlib.Core.List.{List, [], _∷_, _++_, map}
+use mathlib.Core.List.{List, [], _∷_}
 use native.Mathlib.Omega.{arith}
-use native.Mathlib.Numerals.{add-one}
-use borrow.Author.Tests.{eqb-true, eqb-false, ne-eqb}
+use borrow.Author.Tests.{eq-eqb, eqb-true, eqb-false}
 use mir.Facts.{and-yes}
-use lib.ListN.{length, getD, take, drop, length-map, List·getD-map}
-use lib.Dec.{T, leb, ltb, eqb, leb→le}
+use lib.ListN.{length, getD, take, drop}
+use lib.Dec.{T, eqb}
 use Rattle.rows.specs.Laws.Tests.{and-false}
 use Rattle.rows.specs.Notation.{if_then_else_}
 use Rattle.rows.specs.Words.{Known, known, bytes, same-through, same-exactly, same-ignoring-case, lower, number-among, word-number, no-word, other-case}
-use Rattle.rows.specs.WordSearch.{compared, start, of-length, groups, ordered, spellings, texts, texts-length, numbers, firsts, starts, shorter}
-use Rattle.rows.specs.Laws.KnownWords.{byte-differs, nothing-yet, texts-long}
-use Rattle.rows.specs.Laws.KnownTable.{piece, start-suc, start-le, shorter-at, starts-at, no-entry, ordered-long, rows-of, groups-long, group-rows, rows-cons, rows-end, last-row}
+use Rattle.rows.specs.WordSearch.{compared}
+use Rattle.rows.specs.Laws.KnownWords.{byte-differs, nothing-yet}
 use Rattle.rows.specs.declared.words.Comparison.{Comparison}
 use Rattle.rows.specs.declared.words.Comparison.the-variants.{Exact, OtherCase, Different}
 
@@ -28,21 +26,28 @@ lengths-differ fold [] (c ∷ v) d = refl
 lengths-differ fold (b ∷ w) [] d = refl
 lengths-differ fold (b ∷ w) (c ∷ v) d = rw (lengths-differ fold w v (λ e. d (ap suc e))) (and-false (eqb (fold b) (fold c)))
 
--- Of an entry: the number that it gives, or a later one.
-pub picked : Comparison → Known → (later : ℕ) → ℕ
-picked Exact k later = k .number
-picked OtherCase k later = k .number + other-case
-picked Different k later = later
+-- Of an entry with number n: the number that it gives, or a later one.
+unfoldable pub picked : Comparison → (n later : ℕ) → ℕ
+picked Exact n later = n
+picked OtherCase n later = n + other-case
+picked Different n later = later
 
-among-cons : (k : Known) (ks : List Known) (w : List ℕ) → number-among (k ∷ ks) w ≡ picked (compared w (bytes (k .text))) k (number-among ks w)
-unfolding number-among picked compared
-among-cons k ks w = by (same-exactly w (bytes (k .text))) (same-ignoring-case w (bytes (k .text)))
+picks : (w v : List ℕ) (n later : ℕ) → (if same-exactly w v then n else if same-ignoring-case w v then n + other-case else later) ≡ picked (compared w v) n later
+unfolding picked compared
+picks w v n later = by (same-exactly w v) (same-ignoring-case w v)
   where
-    by : (a b : Bool)
-        → (if a then k .number else if b then k .number + other-case else number-among ks w) ≡ picked (if a then Exact else if b then OtherCase else Different) k (number-among ks w)
+    by : (a b : Bool) → (if a then n else if b then n + other-case else later) ≡ picked (if a then Exact else if b then OtherCase else Different) n later
     by true b = refl
     by false true = refl
     by false false = refl
+
+-- As code asks.
+pub picked-by : (w v : List ℕ) (n : ℕ) (c : Comparison) → c ≡ compared w v → picked c n no-word ≡ (if same-exactly w v then n else if same-ignoring-case w v then n + other-case else no-word)
+picked-by w v n c e = ap (λ (d : Comparison). picked d n no-word) e ∙ sym (picks w v n no-word)
+
+among-cons : (k : Known) (ks : List Known) (w : List ℕ) → number-among (k ∷ ks) w ≡ picked (compared w (bytes (k .text))) (k .number) (number-among ks w)
+unfolding number-among
+among-cons k ks w = picks w (bytes (k .text)) (k .number) (number-among ks w)
 
 other-length : (k : Known) (w : List ℕ) → (length (bytes (k .text)) ≡ length w → ⊥) → compared w (bytes (k .text)) ≡ Different
 unfolding compared same-exactly same-ignoring-case
@@ -50,166 +55,101 @@ other-length k w d =
     let e : length w ≡ length (bytes (k .text)) → ⊥ = λ q. d (sym q) in
     rw (lengths-differ (λ b. b) w (bytes (k .text)) e, lengths-differ lower w (bytes (k .text)) e) refl
 
--- One more entry in front of a table and of its part, if its length is the word's.
-of-length-cons : (k : Known) (ks part : List Known) (w : List ℕ) → number-among ks w ≡ number-among part w → (b : Bool) → eqb (length (bytes (k .text))) (length w) ≡ b
-    → number-among (k ∷ ks) w ≡ number-among (if b then k ∷ part else part) w
-unfolding picked
-of-length-cons k ks part w same true e =
-    among-cons k ks w ∙ ap (λ (n : ℕ). picked (compared w (bytes (k .text))) k n) same ∙ sym (among-cons k part w)
-of-length-cons k ks part w same false e =
-    among-cons k ks w ∙ ap (λ (c : Comparison). picked c k (number-among ks w)) (other-length k w (eqb-false (length (bytes (k .text))) (length w) e)) ∙ same
+other-first : (k : Known) (w : List ℕ) → length (bytes (k .text)) ≡ length w → 0 < length w → (lower (getD (bytes (k .text)) 0 0) ≡ lower (getD w 0 0) → ⊥)
+    → compared w (bytes (k .text)) ≡ Different
+other-first k w long some d = sym (byte-differs w (bytes (k .text)) long true 0 (nothing-yet w (bytes (k .text))) some (λ q. d (sym q)))
 
-only-of-length : (ks : List Known) (w : List ℕ) → number-among ks w ≡ number-among (of-length (length w) ks) w
-unfolding of-length
-only-of-length [] w = refl
-only-of-length (k ∷ ks) w = of-length-cons k ks (of-length (length w) ks) w (only-of-length ks w) (eqb (length (bytes (k .text))) (length w)) refl
+-- ---- entries of a table that a word cannot be
 
--- ---- what every known word has
+-- Those of which p holds.
+unfoldable pub kept : (Known → Bool) → List Known → List Known
+kept p [] = []
+kept p (k ∷ ks) = let rest = kept p ks in if p k then k ∷ rest else rest
 
-unfoldable pub each : (Known → Bool) → List Known → Bool
-each p [] = true
-each p (k ∷ ks) = p k && each p ks
+-- p holds of none.
+unfoldable pub none : (Known → Bool) → List Known → Bool
+none p [] = true
+none p (k ∷ ks) = not (p k) && none p ks
 
--- Its number is at most 42, its length at most 16.
-abbrev fitting : Known → Bool
-fitting k = leb (k .number) 42 && leb (length (bytes (k .text))) 16
+kept-none : (p : Known → Bool) (ks : List Known) → T (none p ks) → kept p ks ≡ []
+unfolding kept none
+kept-none p [] t = refl
+kept-none p (k ∷ ks) t = let u = and-yes (not (p k)) (none p ks) t in by (p k) (u .0) (kept-none p ks (u .1))
+  where
+    by : (b : Bool) → T (not b) → kept p ks ≡ [] → (if b then k ∷ kept p ks else kept p ks) ≡ []
+    by true t e = absurd t
+    by false t e = e
 
-all-fit : T (each fitting known)
-unfolding each known bytes
-all-fit = tt
-
--- An entry for words of length n.
-pub record Entry (n : ℕ) (k : Known) : Type 0 where
-  pub long : length (bytes (k .text)) ≡ n
-  pub small : k .number ≤ 42
-
-abbrev pub Entries : ℕ → List Known → Type 0
-Entries n [] = Unit {0}
-Entries n (k ∷ ks) = Entry n k × Entries n ks
-
-entries-cons : (n : ℕ) (k : Known) (part : List Known) → T (fitting k) → Entries n part → (b : Bool) → eqb (length (bytes (k .text))) n ≡ b
-    → Entries n (if b then k ∷ part else part)
-entries-cons n k part t es true e =
-    (record { long = eqb-true (length (bytes (k .text))) n e; small = leb→le (k .number) 42 (and-yes (leb (k .number) 42) (leb (length (bytes (k .text))) 16) t .0) }, es)
-entries-cons n k part t es false e = es
-
-of-length-entries : (n : ℕ) (ks : List Known) → T (each fitting ks) → Entries n (of-length n ks)
-unfolding of-length each
-of-length-entries n [] t = tt
-of-length-entries n (k ∷ ks) t =
-    let u = and-yes (fitting k) (each fitting ks) t in
-    entries-cons n k (of-length n ks) (u .0) (of-length-entries n ks (u .1)) (eqb (length (bytes (k .text))) n) refl
-
-none-longer : (n : ℕ) → 16 < n → (ks : List Known) → T (each fitting ks) → of-length n ks ≡ []
-unfolding of-length each
-none-longer n p [] t = refl
-none-longer n p (k ∷ ks) t =
-    let u = and-yes (fitting k) (each fitting ks) t in
-    let short : length (bytes (k .text)) ≤ 16 = leb→le (length (bytes (k .text))) 16 (and-yes (leb (k .number) 42) (leb (length (bytes (k .text))) 16) (u .0) .1) in
-    rw (ne-eqb (length (bytes (k .text))) n (omega (arith, short))) (none-longer n p ks (u .1))
-
-none-empty : of-length 0 known ≡ []
-unfolding of-length known bytes
-none-empty = refl
-
-pub empty : (w : List ℕ) → length w ≡ 0 → no-word ≡ word-number w
-unfolding word-number number-among
-empty w p = sym (only-of-length known w ∙ rw (p, none-empty) refl)
-
-pub too-long : (w : List ℕ) → 16 < length w → no-word ≡ word-number w
-unfolding word-number number-among
-too-long w p = sym (only-of-length known w ∙ rw (none-longer (length w) p known all-fit) refl)
-
--- ---- the search
-
--- A word's number is to be found among the rows from r up to b.
-pub record Searching (w : List ℕ) (r b : ℕ) : Type 0 where
-  pub inside : r ≤ b
-  pub last : b ≤ 42
-  pub rest : word-number w ≡ number-among (rows-of r b) w
-  pub entries : Entries (length w) (rows-of r b)
-
-pub search-begins : (w : List ℕ) → length w < 17 → Searching w (start groups (length w)) (start groups (length w + 1))
-unfolding word-number
-search-begins w p =
-    record {
-      inside = rw add-one (omega (arith, start-suc groups (length w) (omega (arith, groups-long))));
-      last = last-row (length w + 1);
-      rest = only-of-length known w ∙ rw (group-rows (length w) p) refl;
-      entries = rw (group-rows (length w) p) (of-length-entries (length w) known all-fit);
-    }
-
--- The rows' tables: number, text and room.
-numbers-at : (r : ℕ) → getD numbers r 0 ≡ getD ordered r no-entry .number
-unfolding numbers
-numbers-at r = List·getD-map (λ (k : Known). k .number) ordered r no-entry
-
-spelling-at : (r : ℕ) → getD spellings r [] ≡ bytes (getD ordered r no-entry .text)
-unfolding spellings bytes
-spelling-at r = List·getD-map (λ (k : Known). bytes (k .text)) ordered r no-entry
-
-spellings-long : length spellings ≡ 42
-unfolding spellings
-spellings-long = refl
-
-module _ (w : List ℕ) (r b : ℕ) (s : Searching w r b) (more : r < b) where
-  abbrev entry : Known
-  entry = getD ordered r no-entry
-
-  entries-here : Entries (length w) (entry ∷ rows-of (r + 1) b)
-  entries-here = rw (rows-cons r b more (s .last)) at (s .entries)
-
-  text-here : take (length w) (drop (getD starts r 0) texts) ≡ bytes (entry .text)
-  unfolding texts
-  text-here =
-      let place : getD starts r 0 ≡ start spellings r = starts-at r (omega (arith, s .last)) in
-      let size : length w ≡ length (getD spellings r []) = sym (entries-here .0 .long) ∙ ap length (sym (spelling-at r)) in
-      rw (place, size) (piece spellings r (omega (arith, spellings-long, s .last))) ∙ spelling-at r
-
-  pub room : getD starts r 0 + length w ≤ texts-length
-  unfolding texts
-  room =
-      let place : getD starts r 0 ≡ start spellings r = starts-at r (omega (arith, s .last)) in
-      let size : length w ≡ length (getD spellings r []) = sym (entries-here .0 .long) ∙ ap length (sym (spelling-at r)) in
-      let next : start spellings (suc r) ≡ start spellings r + length (getD spellings r []) = start-suc spellings r (omega (arith, spellings-long, s .last)) in
-      omega (arith, place, size, next, start-le spellings (suc r), texts-long)
-
-  here : (c : Comparison) → c ≡ compared w (take (length w) (drop (getD starts r 0) texts)) → word-number w ≡ picked c entry (number-among (rows-of (r + 1) b) w)
-  here c e =
-      s .rest ∙ ap (λ (ks : List Known). number-among ks w) (rows-cons r b more (s .last)) ∙ among-cons entry (rows-of (r + 1) b) w
-      ∙ ap (λ (d : Comparison). picked d entry (number-among (rows-of (r + 1) b) w)) (ap (compared w) (sym text-here) ∙ sym e)
-
-  pub small-number : getD numbers r 0 ≤ 42
-  small-number = omega (arith, numbers-at r, entries-here .0 .small)
-
-  pub found-exactly : Exact ≡ compared w (take (length w) (drop (getD starts r 0) texts)) → getD numbers r 0 ≡ word-number w
+module _ (w : List ℕ) (p : Known → Bool) (others : (k : Known) → p k ≡ false → compared w (bytes (k .text)) ≡ Different) where
+  kept-cons : (k : Known) (ks part : List Known) → number-among ks w ≡ number-among part w → (b : Bool) → p k ≡ b
+      → number-among (k ∷ ks) w ≡ number-among (if b then k ∷ part else part) w
   unfolding picked
-  found-exactly e = numbers-at r ∙ sym (here Exact e)
+  kept-cons k ks part same true e = among-cons k ks w ∙ ap (λ (n : ℕ). picked (compared w (bytes (k .text))) (k .number) n) same ∙ sym (among-cons k part w)
+  kept-cons k ks part same false e = among-cons k ks w ∙ ap (λ (c : Comparison). picked c (k .number) (number-among ks w)) (others k e) ∙ same
 
-  pub found-in-other-case : OtherCase ≡ compared w (take (length w) (drop (getD starts r 0) texts)) → getD numbers r 0 + other-case ≡ word-number w
-  unfolding picked
-  found-in-other-case e = ap (λ (n : ℕ). n + other-case) (numbers-at r) ∙ sym (here OtherCase e)
+  among-kept : (ks : List Known) → number-among ks w ≡ number-among (kept p ks) w
+  unfolding kept
+  among-kept [] = refl
+  among-kept (k ∷ ks) = kept-cons k ks (kept p ks) (among-kept ks) (p k) refl
 
-  pub not-here : Different ≡ compared w (take (length w) (drop (getD starts r 0) texts)) → Searching w (r + 1) b
-  unfolding picked
-  not-here e = record { inside = omega arith; last = s .last; rest = here Different e; entries = entries-here .1 }
+  in-none : T (none p known) → no-word ≡ word-number w
+  unfolding word-number number-among
+  in-none t = sym (among-kept known ∙ ap (λ (ks : List Known). number-among ks w) (kept-none p known t))
 
-  -- A word whose first byte is another, case ignored, is another word.
-  pub first-differs : 0 < length w → (l : ℕ) → l ≡ lower (getD w 0 0) → (getD firsts r 0 ≡ l → ⊥) → Searching w (r + 1) b
-  unfolding firsts
-  first-differs p l e d =
-      let first : getD firsts r 0 ≡ lower (getD (bytes (entry .text)) 0 0) =
-      List·getD-map (λ (v : List ℕ). lower (getD v 0 0)) spellings r [] ∙ ap (λ (v : List ℕ). lower (getD v 0 0)) (spelling-at r) in
-      not-here
-      (byte-differs w (bytes (entry .text)) (entries-here .0 .long) true 0 (nothing-yet w (bytes (entry .text))) p (λ q. d (first ∙ sym q ∙ sym e))
-      ∙ ap (compared w) (sym text-here))
+-- ---- the known words of one length, and with one first byte
 
-pub not-found : (w : List ℕ) (r b : ℕ) → Searching w r b → b ≤ r → no-word ≡ word-number w
-unfolding number-among
-not-found w r b s p =
-    let same : r ≡ b = omega (arith, s .inside) in
-    sym (s .rest ∙ rw (same, rows-end b) refl)
+-- The entry is for words of length n.
+abbrev pub long-as : (n : ℕ) → Known → Bool
+long-as n k = eqb (length (bytes (k .text))) n
 
--- The search begins where code's table says.
-pub table-begins : (w : List ℕ) → length w < 17 → Searching w (getD shorter (length w) 0) (getD shorter (length w + 1) 0)
-table-begins w p = rw (shorter-at (length w) (omega arith), shorter-at (length w + 1) (omega arith)) (search-begins w p)
+-- The entry is for words of length n that begin with f in lower case.
+abbrev pub like : (n f : ℕ) → Known → Bool
+like n f k = eqb (length (bytes (k .text))) n && eqb (lower (getD (bytes (k .text)) 0 0)) f
+
+-- No known word is of length n.
+pub no-length : (w : List ℕ) (n : ℕ) → length w ≡ n → T (none (long-as n) known) → no-word ≡ word-number w
+no-length w n long = in-none w (long-as n) (λ k e. other-length k w (λ q. eqb-false (length (bytes (k .text))) n e (q ∙ long)))
+
+module _ (w : List ℕ) (n f : ℕ) (long : length w ≡ n) (some : 0 < n) (first : f ≡ lower (getD w 0 0)) where
+  unlike : (k : Known) (a b : Bool) → eqb (length (bytes (k .text))) n ≡ a → eqb (lower (getD (bytes (k .text)) 0 0)) f ≡ b → (a && b) ≡ false → compared w (bytes (k .text)) ≡ Different
+  unlike k false b ea eb e = other-length k w (λ q. eqb-false (length (bytes (k .text))) n ea (q ∙ long))
+  unlike k true false ea eb e =
+      other-first k w (eqb-true (length (bytes (k .text))) n ea ∙ sym long) (omega arith) (λ q. eqb-false (lower (getD (bytes (k .text)) 0 0)) f eb (q ∙ sym first))
+  unlike k true true ea eb e = let z : _≡_ {A = ℕ} 0 1 = cc in absurd (omega arith)
+
+  others : (k : Known) → like n f k ≡ false → compared w (bytes (k .text)) ≡ Different
+  others k e = unlike k (eqb (length (bytes (k .text))) n) (eqb (lower (getD (bytes (k .text)) 0 0)) f) refl refl e
+
+  pub among-like : number-among (kept (like n f) known) w ≡ word-number w
+  unfolding word-number
+  among-like = sym (among-kept w (like n f) others known)
+
+  -- None begins so.
+  pub no-first : T (none (like n f) known) → no-word ≡ word-number w
+  no-first = in-none w (like n f) others
+
+-- ---- one entry, then the others
+
+-- w is to be found in ks; r is what its first entry gives.
+module _ (w : List ℕ) where
+  pub found : (ks : List Known) {total : ℕ} → number-among ks w ≡ total → (r : ℕ) → r ≡ number-among (take 1 ks) w → (r ≡ no-word → ⊥) → r ≡ total
+  unfolding number-among picked
+  found [] rest r e d = absurd (d e)
+  found (k ∷ ks) rest r e d = by (compared w (bytes (k .text))) (e ∙ among-cons k [] w) ∙ sym (among-cons k ks w) ∙ rest
+    where
+      by : (c : Comparison) → r ≡ picked c (k .number) no-word → r ≡ picked c (k .number) (number-among ks w)
+      by Exact q = q
+      by OtherCase q = q
+      by Different q = absurd (d q)
+
+  pub not-found : (ks : List Known) {total : ℕ} → number-among ks w ≡ total → T (none (λ k. eqb (k .number) no-word) ks) → (r : ℕ) → r ≡ number-among (take 1 ks) w → r ≡ no-word → number-among (drop 1 ks) w ≡ total
+  unfolding number-among none picked
+  not-found [] rest t r e z = rest
+  not-found (k ∷ ks) rest t r e z =
+      let positive : k .number ≡ no-word → ⊥ = λ q. rw (eq-eqb (k .number) no-word q) at (and-yes (not (eqb (k .number) no-word)) (none (λ k. eqb (k .number) no-word) ks) t .0) in
+      by positive (compared w (bytes (k .text))) (sym z ∙ e ∙ among-cons k [] w) ∙ sym (among-cons k ks w) ∙ rest
+    where
+      by : (k .number ≡ no-word → ⊥) → (c : Comparison) → no-word ≡ picked c (k .number) no-word → number-among ks w ≡ picked c (k .number) (number-among ks w)
+      by d Exact q = absurd (d (sym q))
+      by d OtherCase q = absurd (omega arith)
+      by d Different q = refl

@@ -1,20 +1,19 @@
 -- A word compared with a known word byte by byte, as code does it.
 -- Assumes nothing.
-use Prim.Native.Nat.{ℕ, zero, suc, _+_, _-_, _≤_, _<_}
+use Prim.Native.Nat.{ℕ, _+_, _≤_, _<_}
 use mathlib.Core.Path.{_≡_, refl, sym, ap, _∙_}
-use mathlib.Core.Bool.{Bool, true, false, not, _&&_}
-use mathlib.Core.List.{List, [], _∷_, _++_, map}
+use mathlib.Core.Bool.{Bool, true, false, _&&_}
+use mathlib.Core.List.{List, []}
 use native.Mathlib.Omega.{arith}
-use lib.ListN.{length, getD, take, drop}
-use lib.ListN.{drop-of-length-le, length-drop}
-use lib.Dec.{T, leb, ltb, eqb}
-use lib.Seq.{drop-cons, length-take-le, getD-take, getD-drop}
+use lib.ListN.{length, getD, drop, drop-of-length-le}
+use lib.Dec.{eqb}
+use lib.Seq.{drop-cons}
 use native.Mathlib.Numerals.{add-one}
 use borrow.Author.Tests.{eq-eqb, ne-eqb}
 use Rattle.rows.specs.Laws.Tests.{and-true, and-false}
 use Rattle.rows.specs.Notation.{if_then_else_}
-use Rattle.rows.specs.Words.{Known, known, bytes, same-through, same-exactly, same-ignoring-case, lower, number-among, word-number, no-word, other-case}
-use Rattle.rows.specs.WordSearch.{compared, texts, texts-length}
+use Rattle.rows.specs.Words.{same-through, same-exactly, same-ignoring-case, lower}
+use Rattle.rows.specs.WordSearch.{compared}
 use Rattle.rows.specs.declared.words.Comparison.the-variants.{Exact, OtherCase, Different}
 
 -- ---- two words byte by byte
@@ -75,39 +74,16 @@ module _ (w v : List ℕ) (same-length : length v ≡ length w) where
       let which : same-exactly w v ≡ exact = s .exactly ∙ rw (ended, ended′) (and-true exact) in
       rw (which, all) refl
 
--- ---- the text that begins at a place of `texts`
+  -- The step of code at byte i; l and m are the two bytes in lower case.
+  module _ (exact : Bool) (i : ℕ) (s : SoFar w v exact i) where
+    pub bytes-differ : i < length w → (l m : ℕ) → l ≡ lower (getD w i 0) → m ≡ lower (getD v i 0) → (l ≡ m → ⊥) → Different ≡ compared w v
+    bytes-differ p l m e e′ d = byte-differs exact i s p (λ q. d (e ∙ q ∙ sym e′))
 
-pub texts-long : length texts ≡ texts-length
-unfolding texts
-texts-long = refl
+    pub bytes-equal : i < length w → getD w i 0 ≡ getD v i 0 → SoFar w v exact (i + 1)
+    bytes-equal p e = rw (eq-eqb (getD w i 0) (getD v i 0) e, and-true exact) at (byte-same exact i s p (ap lower e))
 
-pub text-length : (begin n : ℕ) → begin + n ≤ texts-length → length (take n (drop begin texts)) ≡ n
-text-length begin n p = length-take-le n (drop begin texts) (rw (length-drop, texts-long) (omega arith))
+    pub bytes-in-other-case : i < length w → (l m : ℕ) → l ≡ lower (getD w i 0) → m ≡ lower (getD v i 0) → (getD w i 0 ≡ getD v i 0 → ⊥) → l ≡ m → SoFar w v false (i + 1)
+    bytes-in-other-case p l m e e′ d q = rw (ne-eqb (getD w i 0) (getD v i 0) d, and-false exact) at (byte-same exact i s p (sym e ∙ q ∙ e′))
 
-pub text-byte : (begin n i : ℕ) → i < n → getD (take n (drop begin texts)) i 0 ≡ getD texts (begin + i) 0
-text-byte begin n i p = getD-take n (drop begin texts) i 0 p ∙ getD-drop begin texts i 0
-
-module _ (w : List ℕ) (begin : ℕ) (room : begin + length w ≤ texts-length) (exact : Bool) (i : ℕ) (s : SoFar w (take (length w) (drop begin texts)) exact i) where
-  abbrev text : List ℕ
-  text = take (length w) (drop begin texts)
-
-  -- l and m are the two bytes in lower case.
-  pub text-differs : i < length w → (l m : ℕ) → l ≡ lower (getD w i 0) → m ≡ lower (getD texts (begin + i) 0) → (l ≡ m → ⊥) → Different ≡ compared w text
-  text-differs p l m e e′ d =
-      byte-differs w text (text-length begin (length w) room) exact i s p (λ q. d (e ∙ q ∙ ap lower (text-byte begin (length w) i p) ∙ sym e′))
-
-  text-same : i < length w → (l m : ℕ) → l ≡ lower (getD w i 0) → m ≡ lower (getD texts (begin + i) 0) → l ≡ m
-      → SoFar w text (exact && eqb (getD w i 0) (getD texts (begin + i) 0)) (i + 1)
-  text-same p l m e e′ q =
-      rw (text-byte begin (length w) i p) at
-      (byte-same w text (text-length begin (length w) room) exact i s p (sym e ∙ q ∙ e′ ∙ sym (ap lower (text-byte begin (length w) i p))))
-
-  pub text-equal : i < length w → getD w i 0 ≡ getD texts (begin + i) 0 → SoFar w text exact (i + 1)
-  text-equal p e = rw (eq-eqb (getD w i 0) (getD texts (begin + i) 0) e, and-true exact) at (text-same p _ _ refl refl (ap lower e))
-
-  pub text-in-other-case : i < length w → (l m : ℕ) → l ≡ lower (getD w i 0) → m ≡ lower (getD texts (begin + i) 0) → (getD w i 0 ≡ getD texts (begin + i) 0 → ⊥) → l ≡ m
-      → SoFar w text false (i + 1)
-  text-in-other-case p l m e e′ d q = rw (ne-eqb (getD w i 0) (getD texts (begin + i) 0) d, and-false exact) at (text-same p l m e e′ q)
-
-  pub text-ended : length w ≤ i → (b : Bool) → exact ≡ b → (if b then Exact else OtherCase) ≡ compared w text
-  text-ended p b e = rw (← e) (all-compared w text (text-length begin (length w) room) exact i s p)
+    pub bytes-ended : length w ≤ i → (b : Bool) → exact ≡ b → (if b then Exact else OtherCase) ≡ compared w v
+    bytes-ended p b e = rw (← e) (all-compared exact i s p)

@@ -3,15 +3,15 @@
 use Prim.Native.Nat.{ℕ, _+_, _-_, _≤_, _<_}
 use mathlib.Core.Path.{_≡_, refl, sym, ap, _∙_}
 use mathlib.Core.Bool.{Bool, true, false, _&&_}
-use mathlib.Core.List.{List, [], _∷_}
+use mathlib.Core.List.{List, [], _∷_, _++_}
 use native.Mathlib.Omega.{arith}
 use native.Mathlib.Numerals.{add-one}
 use borrow.Author.Tests.{lt-ltb, le-ltb, le-leb, lt-leb, eq-eqb, ne-eqb}
 use lib.ListN.{length, getD, take, drop}
-use lib.ListN.{drop-of-length-le}
+use lib.ListN.{drop-of-length-le, take-append-drop, length-drop}
 use lib.Dec.{T, leb, ltb, eqb, leb→le, ltb→lt, eqb→eq}
 use mir.Facts.{and-yes}
-use lib.Seq.{drop-cons}
+use lib.Seq.{drop-cons, drop-drop, take-add, take-all}
 use Rattle.rows.specs.Notation.{if_then_else_}
 use Rattle.rows.specs.Kinds.{Identifier, End}
 use Rattle.rows.specs.Format.{token-length, longest-word, least-word-byte, greatest-word-byte}
@@ -39,6 +39,50 @@ module _ (w : List ℕ) (i : ℕ) (fits : Bool) {total : Bool} (so-far : (fits &
   pub no-more : length w ≤ i → fits ≡ total
   unfolding in-range
   no-more h = sym (and-true fits) ∙ rw (drop-of-length-le w {i = i} h) at so-far
+
+-- ---- a word in groups of bytes
+
+and-assoc : (a b c : Bool) → ((a && b) && c) ≡ (a && (b && c))
+and-assoc true b c = refl
+and-assoc false b c = refl
+
+in-range-append : (v w : List ℕ) → in-range (v ++ w) ≡ (in-range v && in-range w)
+unfolding in-range
+in-range-append [] w = refl
+in-range-append (b ∷ v) w = rw (in-range-append v w) (sym (and-assoc (leb least-word-byte b && leb b greatest-word-byte) (in-range v) (in-range w)))
+
+pub one-byte : (w : List ℕ) (at : ℕ) → at < length w → (leb least-word-byte (getD w at 0) && leb (getD w at 0) greatest-word-byte) ≡ in-range (take 1 (drop at w))
+unfolding in-range
+one-byte w at h = rw (drop-cons w at 0 h) (sym (and-true (leb least-word-byte (getD w at 0) && leb (getD w at 0) greatest-word-byte)))
+
+halves : (v : List ℕ) (m n : ℕ) → (in-range (take m v) && in-range (take n (drop m v))) ≡ in-range (take (m + n) v)
+halves v m n = sym (ap in-range (take-add m n v) ∙ in-range-append (take m v) (take n (drop m v)))
+
+-- Two groups that meet are one.
+pub groups-meet : (w : List ℕ) (at m n : ℕ) → (in-range (take m (drop at w)) && in-range (take n (drop (at + m) w))) ≡ in-range (take (m + n) (drop at w))
+groups-meet w at m n = rw (drop-drop m at w) at (halves (drop at w) m n)
+
+-- What two groups share counts once.
+shared : (a b c : Bool) → ((a && b) && (b && c)) ≡ ((a && b) && c)
+shared true true c = refl
+shared true false c = refl
+shared false b c = refl
+
+overlapping : (w : List ℕ) (a d : ℕ) → (in-range (take (a + d) w) && in-range (drop a w)) ≡ in-range w
+overlapping w a d =
+    let first : in-range (take (a + d) w) ≡ (in-range (take a w) && in-range (take d (drop a w))) = sym (halves w a d) in
+    let last : in-range (drop a w) ≡ (in-range (take d (drop a w)) && in-range (drop (a + d) w)) =
+    ap in-range (sym (take-append-drop d (drop a w)) ∙ ap (λ (r : List ℕ). take d (drop a w) ++ r) (drop-drop d a w)) ∙ in-range-append (take d (drop a w)) (drop (a + d) w) in
+    let all : in-range w ≡ (in-range (take (a + d) w) && in-range (drop (a + d) w)) =
+    ap in-range (sym (take-append-drop (a + d) w)) ∙ in-range-append (take (a + d) w) (drop (a + d) w) in
+    cc (shared (in-range (take a w)) (in-range (take d (drop a w))) (in-range (drop (a + d) w)))
+
+-- The first m bytes and the last k are all bytes; they may overlap.
+pub groups-cover : (w : List ℕ) (m k : ℕ) → k ≤ length w → length w ≤ m + k → (in-range (take m w) && in-range (take k (drop (length w - k) w))) ≡ in-range w
+groups-cover w m k few cover =
+    let last : take k (drop (length w - k) w) ≡ drop (length w - k) w = take-all k (drop (length w - k) w) (simp length-drop (omega arith)) in
+    let size : length w - k + (m - (length w - k)) ≡ m = omega arith in
+    rw last (rw size at (overlapping w (length w - k) (m - (length w - k))))
 
 -- ---- a record of length n and kind k, test by test
 

@@ -5,7 +5,6 @@ use native.Mathlib.Omega.{arith}
 use borrow.Author.Needs.{needs}
 use lib.ListN.{length, length-set}
 use Rattle.rows.specs.Laws.Tokens.{formed-fits}
-use Rattle.rows.specs.WordSearch.{texts, numbers, firsts, starts, shorter}
 use Rattle.rows.specs.Laws.RowLoop.{RowLoop, loop-begins, loop-full, loop-malformed, loop-token, loop-ends}
 use Rattle.rows.proofs.row.read_records.Statement.{statement}
 use Rattle.rows.proofs.row.read_records.Tie as tie
@@ -16,10 +15,10 @@ use Rattle.rows.proofs.token.token_at.Reads as token-at-reads
 use Rattle.rows.proofs.words.number_of_word.Reads as number-of-word-reads
 
 abbrev Inv-loop : tie.InvT-loop
-Inv-loop format file begin most kinds₀ words₀ places₀ texts numbers firsts starts shorter plain at₀ count₀ kinds words places at count = RowLoop format file begin most kinds₀ words₀ places₀ kinds words places at count
+Inv-loop format file begin most kinds₀ words₀ places₀ plain at₀ count₀ kinds words places at count = RowLoop format file begin most kinds₀ words₀ places₀ kinds words places at count
 
 abbrev μ-loop : tie.MeasureT-loop
-μ-loop format file begin most kinds₀ words₀ places₀ texts numbers firsts starts shorter plain at₀ count₀ kinds words places at count = length file - at
+μ-loop format file begin most kinds₀ words₀ places₀ plain at₀ count₀ kinds words places at count = length file - at
 
 token-length-requires : tie.Need-token-length-requires Inv-loop μ-loop
 token-length-requires c κs = omega arith
@@ -79,29 +78,28 @@ part-number-of-word-end : tie.Need-part-number-of-word-end Inv-loop μ-loop
 part-number-of-word-end c = let fit = formed-fits (c .before .before .before .before .before .before .before .before .before .before .before .before .args .format) _ _ _ _ (sym (c .before .before .before .token-at .ensures) ∙ c .before .found .given .1) in omega (arith, c .before .before .before .before .before .before .before .token-length .ensures .0)
 
 number-of-word-requires : tie.Need-number-of-word-requires Inv-loop μ-loop
-unfolding texts numbers firsts starts shorter
-number-of-word-requires c κs = record { known-are = refl; numbers-are = refl; firsts-are = refl; starts-are = refl; shorter-are = refl }
+number-of-word-requires c κs = omega arith
 
 slice-write-words : tie.Need-slice-write-words Inv-loop μ-loop
-slice-write-words c = omega (arith, c .before .before .before .before .before .before .before .before .before .before .before .before .before .loop .inv .words-so-far .long, c .before .before .before .before .before .before .before .before .before .before .before .before .before .before .before .before .before .before .before .pre .for-words, c .before .before .before .before .before .before .before .before .before .before .before .before .before .loop .inv .few, c .before .before .before .before .before .before .before .before .before .before .before .if1 .left)
+slice-write-words c = omega (arith, c .before .before .before .before .before .before .before .before .loop .inv .words-so-far .long, c .before .before .before .before .before .before .before .before .before .before .before .before .before .before .pre .for-words, c .before .before .before .before .before .before .before .before .loop .inv .few, c .before .before .before .before .before .before .if1 .left)
 
 cast-places : tie.Need-cast-places Inv-loop μ-loop
-cast-places c = omega (arith, c .before .before .before .before .before .before .before .before .before .before .before .before .before .before .before .before .before .before .before .pre .offsets-fit)
+cast-places c = omega (arith, c .before .before .before .before .before .before .before .before .before .before .before .before .before .before .pre .offsets-fit)
 
 mul-places : tie.Need-mul-places Inv-loop μ-loop
-mul-places c = omega (arith, c .before .before .before .before .before .before .before .before .before .before .before .before .before .loop .inv .passed, c .before .before .before .before .before .before .before .before .before .before .before .before .loop-test .taken, c .before .before .before .before .before .before .before .before .before .before .before .before .before .before .before .before .before .before .before .pre .offsets-fit)
+mul-places c = omega (arith, c .before .before .before .before .before .before .before .before .loop .inv .passed, c .before .before .before .before .before .before .before .loop-test .taken, c .before .before .before .before .before .before .before .before .before .before .before .before .before .before .pre .offsets-fit)
 
 slice-write-places : tie.Need-slice-write-places Inv-loop μ-loop
-slice-write-places c = omega (arith, c .before .before .before .before .before .before .before .before .before .before .before .before .before .loop .inv .places-so-far .long, c .before .before .before .before .before .before .before .before .before .before .before .before .before .before .before .before .before .before .before .pre .for-places, c .before .before .before .before .before .before .before .before .before .before .before .before .before .loop .inv .few, c .before .before .before .before .before .before .before .before .before .before .before .if1 .left)
+slice-write-places c = omega (arith, c .before .before .before .before .before .before .before .before .loop .inv .places-so-far .long, c .before .before .before .before .before .before .before .before .before .before .before .before .before .before .pre .for-places, c .before .before .before .before .before .before .before .before .loop .inv .few, c .before .before .before .before .before .before .if1 .left)
 
 add-count : tie.Need-add-count Inv-loop μ-loop
-add-count c = omega (arith, c .before .before .before .before .before .before .before .before .before .before .before .before .before .loop .inv .few, c .before .before .before .before .before .before .before .before .before .before .before .if1 .left)
+add-count c = omega (arith, c .before .before .before .before .before .before .before .before .loop .inv .few, c .before .before .before .before .before .before .if1 .left)
 
 loop-less : tie.Need-loop-less Inv-loop μ-loop
-loop-less c = let fit = formed-fits (c .before .before .before .before .before .before .before .before .before .before .before .before .before .before .before .before .before .before .before .args .format) _ _ _ _ (sym (c .before .before .before .before .before .before .before .before .before .before .token-at .ensures) ∙ c .before .before .before .before .before .before .before .before .found .given .1) in omega (arith, c .before .before .before .before .before .before .before .before .before .before .before .before .before .before .token-length .ensures .0)
+loop-less c = let fit = formed-fits (c .before .before .before .before .before .before .before .before .before .before .before .before .before .before .args .format) _ _ _ _ (sym (c .before .before .before .before .before .token-at .ensures) ∙ c .before .before .before .found .given .1) in omega (arith, c .before .before .before .before .before .before .before .before .before .token-length .ensures .0)
 
 loop-again : tie.Need-loop-again Inv-loop μ-loop
-loop-again c = loop-token (c .before .before .before .before .before .before .before .before .before .before .before .before .before .loop .inv) (c .before .before .before .before .before .before .before .before .before .before .before .before .before .before .before .before .before .before .before .pre) (omega arith) (c .before .before .before .before .before .before .before .before .before .before .before .if1 .left) _ _ (sym (c .before .before .before .before .before .before .before .before .before .before .token-at .ensures) ∙ c .before .before .before .before .before .before .before .before .found .given .1) _ (rw (c .before .before .before .before .before .before .before .before .before .before .before .before .before .before .token-length .ensures .0) at (c .number-of-word .ensures))
+loop-again c = loop-token (c .before .before .before .before .before .before .before .before .loop .inv) (c .before .before .before .before .before .before .before .before .before .before .before .before .before .before .pre) (omega arith) (c .before .before .before .before .before .before .if1 .left) _ _ (sym (c .before .before .before .before .before .token-at .ensures) ∙ c .before .before .before .found .given .1) _ (rw (c .before .before .before .before .before .before .before .before .before .token-length .ensures .0) at (c .number-of-word .ensures))
 
 same-length-7 : tie.Need-same-length-7 Inv-loop μ-loop
 same-length-7 c = c .before .loop .inv .kinds-so-far .long

@@ -1,41 +1,70 @@
--- `is_word` meets its contract. The loop's invariant: what is passed fits, and what is left decides. Assumes nothing.
-use Prim.Native.Nat.{_≤_, _-_}
-use mathlib.Core.Path.{_≡_, refl}
-use mathlib.Core.Bool.{_&&_}
+-- `is_word` meets its contract. Assumes nothing.
+use Prim.Native.Nat.{_-_, _%_}
 use native.Mathlib.Omega.{arith}
-use lib.ListN.{length, drop}
-use Rattle.rows.specs.Records.{in-range}
-use Rattle.rows.specs.Laws.Tokens.{one-more, no-more}
+use lib.ListN.{length, length-take}
+use Rattle.rows.specs.Laws.Tokens.{groups-cover}
+use borrow.Author.Needs.{needs}
 use Rattle.rows.proofs.token.is_word.Statement.{statement}
 use Rattle.rows.proofs.token.is_word.Tie as tie
 use Rattle.rows.proofs.token.is_word.Reads as reads
 use Rattle.rows.proofs.token.is_word.Lts as lts
+use Rattle.rows.proofs.token.all_fit.Reads as all-fit-reads
+use Rattle.rows.proofs.token.eight_fit.Reads as eight-fit-reads
+use Rattle.rows.proofs.token.four_fit.Reads as four-fit-reads
 
-abbrev Inv-loop : tie.InvT-loop
-Inv-loop word fits₀ i₀ fits i = (i ≤ length word) × ((fits && in-range (drop i word)) ≡ in-range word)
+all-fit-requires : tie.Need-all-fit-requires
+all-fit-requires c κs = search needs
 
-abbrev μ-loop : tie.MeasureT-loop
-μ-loop word fits₀ i₀ fits i = length word - i
+returns : tie.Need-returns
+returns c = c .all-fit .ensures
 
-loop-holds : tie.Need-loop-holds Inv-loop μ-loop
-loop-holds c = (omega arith, refl)
+four-fit-requires : tie.Need-four-fit-requires
+four-fit-requires c κs = search needs
 
-shared-slice-read-byte : tie.Need-shared-slice-read-byte Inv-loop μ-loop
-shared-slice-read-byte c = omega arith
+four-fit-requires-2 : tie.Need-four-fit-requires-2
+four-fit-requires-2 c κs = search needs
 
-add-i : tie.Need-add-i Inv-loop μ-loop
-add-i c = omega arith
+returns-2 : tie.Need-returns-2
+returns-2 c = rw (c .before .four-fit .ensures, c .four-fit2 .ensures) (groups-cover (c .before .before .before .before .before .args .word .now) 4 4 (omega arith) (omega arith))
 
-loop-less : tie.Need-loop-less Inv-loop μ-loop
-loop-less c = omega arith
+eight-fit-requires : tie.Need-eight-fit-requires
+eight-fit-requires c κs = search needs
 
-loop-again : tie.Need-loop-again Inv-loop μ-loop
-loop-again c = (omega arith, one-more (c .before .before .before .args .word .now) (c .before .before .loop .i) (c .before .before .loop .fits) (c .before .before .loop .inv .1) (omega arith))
+eight-fit-requires-2 : tie.Need-eight-fit-requires-2
+eight-fit-requires-2 c κs = search needs
 
-returns : tie.Need-returns Inv-loop μ-loop
-returns c = no-more (c .before .before .args .word .now) (c .before .loop .i) (c .before .loop .fits) (c .before .loop .inv .1) (omega arith)
+returns-3 : tie.Need-returns-3
+returns-3 c = rw (c .before .eight-fit .ensures, c .eight-fit2 .ensures) (groups-cover (c .before .before .before .before .before .before .args .word .now) 8 8 (omega arith) (omega arith))
+
+sub-eights : tie.Need-sub-eights
+sub-eights c = search needs
+
+slice-aggregate-all-fit : tie.Need-slice-aggregate-all-fit
+slice-aggregate-all-fit c = simp length-take (omega arith)
+
+all-fit-requires-2 : tie.Need-all-fit-requires-2
+all-fit-requires-2 c κs = search needs
+
+eight-fit-requires-3 : tie.Need-eight-fit-requires-3
+eight-fit-requires-3 c κs = search needs
+
+returns-4 : tie.Need-returns-4
+returns-4 c = rw (c .before .all-fit2 .ensures, c .eight-fit3 .ensures) (groups-cover (c .before .before .before .before .before .before .before .args .word .now) (length (c .before .before .before .before .before .before .before .args .word .now) - length (c .before .before .before .before .before .before .before .args .word .now) % 8) 8 (omega arith) (omega arith))
 
 pub is-word-spec : {M : Type 1} → statement M
 is-word-spec =
     tie.close
-    (tie.spec Inv-loop μ-loop loop-holds shared-slice-read-byte add-i loop-less loop-again returns)
+    (tie.spec
+    all-fit-requires
+    returns
+    four-fit-requires
+    four-fit-requires-2
+    returns-2
+    eight-fit-requires
+    eight-fit-requires-2
+    returns-3
+    sub-eights
+    slice-aggregate-all-fit
+    all-fit-requires-2
+    eight-fit-requires-3
+    returns-4)

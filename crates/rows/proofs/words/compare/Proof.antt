@@ -1,12 +1,9 @@
 -- `compare` meets its contract. The loop's invariant: the same with case ignored so far. Assumes nothing.
 use Prim.Native.Nat.{_-_}
-use mathlib.Core.Path.{_≡_, refl, sym, ap, _∙_}
 use mathlib.Core.Bool.{true, false}
 use native.Mathlib.Omega.{arith}
-use lib.ListN.{length, take, drop}
-use Rattle.rows.specs.Words.{lower}
-use Rattle.rows.specs.WordSearch.{texts}
-use Rattle.rows.specs.Laws.KnownWords.{SoFar, nothing-yet, text-differs, text-equal, text-in-other-case, text-ended}
+use lib.ListN.{length}
+use Rattle.rows.specs.Laws.KnownWords.{SoFar, nothing-yet, bytes-differ, bytes-equal, bytes-in-other-case, bytes-ended}
 use Rattle.rows.proofs.words.compare.Statement.{statement}
 use Rattle.rows.proofs.words.compare.Tie as tie
 use Rattle.rows.proofs.words.compare.Reads as reads
@@ -14,10 +11,10 @@ use Rattle.rows.proofs.words.compare.Lts as lts
 use Rattle.rows.proofs.words.lower_case.Reads as lower-case-reads
 
 abbrev Inv-loop : tie.InvT-loop
-Inv-loop word known begin exact₀ i₀ exact i = SoFar word (take (length word) (drop begin texts)) exact i
+Inv-loop word known exact₀ i₀ exact i = SoFar word known exact i
 
 abbrev μ-loop : tie.MeasureT-loop
-μ-loop word known begin exact₀ i₀ exact i = length word - i
+μ-loop word known exact₀ i₀ exact i = length word - i
 
 loop-holds : tie.Need-loop-holds Inv-loop μ-loop
 loop-holds c = nothing-yet _ _
@@ -25,11 +22,8 @@ loop-holds c = nothing-yet _ _
 shared-slice-read-byte : tie.Need-shared-slice-read-byte Inv-loop μ-loop
 shared-slice-read-byte c = omega arith
 
-add-other : tie.Need-add-other Inv-loop μ-loop
-add-other c = omega (arith, c .before .before .loop .inv .inside)
-
-element-copy-out-other : tie.Need-element-copy-out-other Inv-loop μ-loop
-element-copy-out-other c = omega arith
+shared-slice-read-other : tie.Need-shared-slice-read-other Inv-loop μ-loop
+shared-slice-read-other c = omega arith
 
 add-i : tie.Need-add-i Inv-loop μ-loop
 add-i c = omega arith
@@ -38,8 +32,7 @@ loop-less : tie.Need-loop-less Inv-loop μ-loop
 loop-less c = omega arith
 
 loop-again : tie.Need-loop-again Inv-loop μ-loop
-unfolding texts
-loop-again c = text-equal _ _ (c .before .before .before .before .before .before .pre .0) _ _ (c .before .before .before .before .loop .inv) (omega arith) (rw (c .before .before .before .before .before .before .pre .1) at (c .if1 .taken))
+loop-again c = bytes-equal _ _ (c .before .before .before .before .before .before .before .pre) _ _ (c .before .before .before .before .loop .inv) (omega arith) (c .if1 .taken)
 
 lower-case-requires : tie.Need-lower-case-requires Inv-loop μ-loop
 lower-case-requires c κs = omega arith
@@ -48,8 +41,7 @@ lower-case-requires-2 : tie.Need-lower-case-requires-2 Inv-loop μ-loop
 lower-case-requires-2 c κs = omega arith
 
 returns : tie.Need-returns Inv-loop μ-loop
-unfolding texts
-returns c = text-differs _ _ (c .before .before .before .before .before .before .before .before .before .pre .0) _ _ (c .before .before .before .before .before .before .before .loop .inv) (omega arith) _ _ (c .before .before .lower-case .ensures) (rw (c .before .before .before .before .before .before .before .before .before .pre .1) at (c .before .lower-case2 .ensures)) (c .if2 .taken)
+returns c = bytes-differ _ _ (c .before .before .before .before .before .before .before .before .before .before .pre) _ _ (c .before .before .before .before .before .before .before .loop .inv) (omega arith) _ _ (c .before .before .lower-case .ensures) (c .before .lower-case2 .ensures) (c .if2 .taken)
 
 add-i-2 : tie.Need-add-i-2 Inv-loop μ-loop
 add-i-2 c = omega arith
@@ -58,14 +50,13 @@ loop-less-2 : tie.Need-loop-less-2 Inv-loop μ-loop
 loop-less-2 c = omega arith
 
 loop-again-2 : tie.Need-loop-again-2 Inv-loop μ-loop
-unfolding texts
-loop-again-2 c = text-in-other-case _ _ (c .before .before .before .before .before .before .before .before .before .pre .0) _ _ (c .before .before .before .before .before .before .before .loop .inv) (omega arith) _ _ (c .before .before .lower-case .ensures) (rw (c .before .before .before .before .before .before .before .before .before .pre .1) at (c .before .lower-case2 .ensures)) (rw (c .before .before .before .before .before .before .before .before .before .pre .1) at (c .before .before .before .if1 .left)) (c .if2 .left)
+loop-again-2 c = bytes-in-other-case _ _ (c .before .before .before .before .before .before .before .before .before .before .pre) _ _ (c .before .before .before .before .before .before .before .loop .inv) (omega arith) _ _ (c .before .before .lower-case .ensures) (c .before .lower-case2 .ensures) (c .before .before .before .if1 .left) (c .if2 .left)
 
 returns-2 : tie.Need-returns-2 Inv-loop μ-loop
-returns-2 c = text-ended _ _ (c .before .before .before .before .pre .0) _ _ (c .before .before .loop .inv) (omega arith) true (c .if3 .taken)
+returns-2 c = bytes-ended _ _ (c .before .before .before .before .before .pre) _ _ (c .before .before .loop .inv) (omega arith) true (c .if3 .taken)
 
 returns-3 : tie.Need-returns-3 Inv-loop μ-loop
-returns-3 c = text-ended _ _ (c .before .before .before .before .pre .0) _ _ (c .before .before .loop .inv) (omega arith) false (c .if3 .left)
+returns-3 c = bytes-ended _ _ (c .before .before .before .before .before .pre) _ _ (c .before .before .loop .inv) (omega arith) false (c .if3 .left)
 
 pub compare-spec : {M : Type 1} → statement M
 compare-spec =
@@ -75,8 +66,7 @@ compare-spec =
     μ-loop
     loop-holds
     shared-slice-read-byte
-    add-other
-    element-copy-out-other
+    shared-slice-read-other
     add-i
     loop-less
     loop-again

@@ -1,147 +1,144 @@
--- `number_of_word` meets its contract. The loop's invariant: the word's number is to be found among the rows that are left. Assumes nothing.
-use Prim.Native.Nat.{_-_}
-use mathlib.Core.Path.{_≡_, refl, sym, _∙_}
+-- `number_of_word` meets its contract. Assumes nothing.
+use mathlib.Core.Path.{refl, sym}
 use native.Mathlib.Omega.{arith}
+use borrow.Author.Tests.{ne-eqb}
+use lib.ListN.{length}
+use Rattle.rows.specs.Words.{known, bytes}
+use Rattle.rows.specs.Laws.KnownSearch.{none, no-length}
 use borrow.Author.Needs.{needs}
-use Rattle.rows.specs.Laws.KnownSearch.{Searching, empty, too-long, table-begins, room, small-number, found-exactly, found-in-other-case, first-differs, not-here, not-found}
 use Rattle.rows.proofs.words.number_of_word.Statement.{statement}
 use Rattle.rows.proofs.words.number_of_word.Tie as tie
 use Rattle.rows.proofs.words.number_of_word.Reads as reads
 use Rattle.rows.proofs.words.number_of_word.Lts as lts
-use Rattle.rows.proofs.bytes.wide.Reads as wide-reads
-use Rattle.rows.proofs.bytes.wide_two.Reads as wide-two-reads
-use Rattle.rows.proofs.words.compare.Reads as compare-reads
 use Rattle.rows.proofs.words.lower_case.Reads as lower-case-reads
+use Rattle.rows.proofs.words.of_10.Reads as of-10-reads
+use Rattle.rows.proofs.words.of_11.Reads as of-11-reads
+use Rattle.rows.proofs.words.of_12.Reads as of-12-reads
+use Rattle.rows.proofs.words.of_13.Reads as of-13-reads
+use Rattle.rows.proofs.words.of_16.Reads as of-16-reads
+use Rattle.rows.proofs.words.of_3.Reads as of-3-reads
+use Rattle.rows.proofs.words.of_4.Reads as of-4-reads
+use Rattle.rows.proofs.words.of_5.Reads as of-5-reads
+use Rattle.rows.proofs.words.of_6.Reads as of-6-reads
+use Rattle.rows.proofs.words.of_7.Reads as of-7-reads
+use Rattle.rows.proofs.words.of_8.Reads as of-8-reads
+use Rattle.rows.proofs.words.of_9.Reads as of-9-reads
 
-abbrev Inv-loop : tie.InvT-loop
-Inv-loop word known numbers firsts starts shorter size first end row₀ row = Searching word row «end»
+returns : tie.Need-returns
+unfolding none known bytes
+returns c = no-length _ 0 (c .if1 .taken) tt
 
-abbrev μ-loop : tie.MeasureT-loop
-μ-loop word known numbers firsts starts shorter size first end row₀ row = «end» - row
+shared-slice-read-lower-case : tie.Need-shared-slice-read-lower-case
+shared-slice-read-lower-case c = search needs
 
-returns : tie.Need-returns Inv-loop μ-loop
-returns c = empty _ (c .if1 .taken)
+lower-case-requires : tie.Need-lower-case-requires
+lower-case-requires c κs = search needs
 
-returns-2 : tie.Need-returns-2 Inv-loop μ-loop
-returns-2 c = too-long _ (c .if2 .taken)
+of-3-requires : tie.Need-of-3-requires
+of-3-requires c κs = search needs
 
-shared-slice-read-lower-case : tie.Need-shared-slice-read-lower-case Inv-loop μ-loop
-shared-slice-read-lower-case c = omega arith
+of-4-requires : tie.Need-of-4-requires
+of-4-requires c κs = search needs
 
-lower-case-requires : tie.Need-lower-case-requires Inv-loop μ-loop
-lower-case-requires c κs = omega arith
+of-5-requires : tie.Need-of-5-requires
+of-5-requires c κs = search needs
 
-add-wide : tie.Need-add-wide Inv-loop μ-loop
-add-wide c = omega arith
+of-6-requires : tie.Need-of-6-requires
+of-6-requires c κs = search needs
 
-element-copy-out-wide : tie.Need-element-copy-out-wide Inv-loop μ-loop
-element-copy-out-wide c = omega arith
+of-7-requires : tie.Need-of-7-requires
+of-7-requires c κs = search needs
 
-wide-requires : tie.Need-wide-requires Inv-loop μ-loop
-wide-requires c κs = omega arith
+of-8-requires : tie.Need-of-8-requires
+of-8-requires c κs = search needs
 
-element-copy-out-wide-2 : tie.Need-element-copy-out-wide-2 Inv-loop μ-loop
-element-copy-out-wide-2 c = omega arith
+of-9-requires : tie.Need-of-9-requires
+of-9-requires c κs = search needs
 
-wide-requires-2 : tie.Need-wide-requires-2 Inv-loop μ-loop
-wide-requires-2 c κs = omega arith
+of-10-requires : tie.Need-of-10-requires
+of-10-requires c κs = search needs
 
-loop-holds : tie.Need-loop-holds Inv-loop μ-loop
-loop-holds c = rw (c .before .before .wide .ensures .0, c .wide2 .ensures .0, c .before .before .before .before .before .before .before .before .before .pre .shorter-are) (table-begins _ (omega arith))
+of-11-requires : tie.Need-of-11-requires
+of-11-requires c κs = search needs
 
-element-copy-out-if3 : tie.Need-element-copy-out-if3 Inv-loop μ-loop
-element-copy-out-if3 c = omega (arith, c .before .loop .inv .last)
+of-12-requires : tie.Need-of-12-requires
+of-12-requires c κs = search needs
 
-add-row : tie.Need-add-row Inv-loop μ-loop
-add-row c = omega arith
+of-13-requires : tie.Need-of-13-requires
+of-13-requires c κs = search needs
 
-loop-less : tie.Need-loop-less Inv-loop μ-loop
-loop-less c = omega arith
+of-16-requires : tie.Need-of-16-requires
+of-16-requires c κs = search needs
 
-loop-again : tie.Need-loop-again Inv-loop μ-loop
-loop-again c = first-differs _ _ _ (c .before .before .before .loop .inv) (omega arith) (omega (arith, c .before .before .before .before .before .before .before .before .before .before .before .if1 .left)) _ (c .before .before .before .before .before .before .before .before .lower-case .ensures) (rw (c .before .before .before .before .before .before .before .before .before .before .before .before .before .pre .firsts-are) at (c .if3 .taken))
+returns-2 : tie.Need-returns-2
+returns-2 c = search needs
 
-mul-wide-two : tie.Need-mul-wide-two Inv-loop μ-loop
-mul-wide-two c = omega (arith, c .before .before .before .loop .inv .last)
+returns-3 : tie.Need-returns-3
+returns-3 c = search needs
 
-element-copy-out-wide-two : tie.Need-element-copy-out-wide-two Inv-loop μ-loop
-element-copy-out-wide-two c = omega (arith, c .before .before .before .loop .inv .last)
+returns-4 : tie.Need-returns-4
+returns-4 c = search needs
 
-wide-two-requires : tie.Need-wide-two-requires Inv-loop μ-loop
-wide-two-requires c κs = omega arith
+returns-5 : tie.Need-returns-5
+returns-5 c = search needs
 
-compare-requires : tie.Need-compare-requires Inv-loop μ-loop
-compare-requires c κs = (rw (c .wide-two .ensures, c .before .before .before .before .before .before .before .before .before .before .before .before .before .before .before .pre .starts-are) (room _ _ _ (c .before .before .before .before .before .loop .inv) (omega arith)), c .before .before .before .before .before .before .before .before .before .before .before .before .before .before .before .pre .known-are)
+returns-6 : tie.Need-returns-6
+returns-6 c = search needs
 
-enum-told : tie.Need-enum-told Inv-loop μ-loop
-enum-told c = search needs
+returns-7 : tie.Need-returns-7
+returns-7 c = search needs
 
-element-copy-out-result : tie.Need-element-copy-out-result Inv-loop μ-loop
-element-copy-out-result c = omega (arith, c .before .before .before .before .before .before .before .before .loop .inv .last)
+returns-8 : tie.Need-returns-8
+returns-8 c = search needs
 
-returns-3 : tie.Need-returns-3 Inv-loop μ-loop
-returns-3 c = rw (c .before .before .before .before .before .before .before .before .before .before .before .before .before .before .before .before .before .before .before .pre .numbers-are) (found-exactly _ _ _ (c .before .before .before .before .before .before .before .before .before .loop .inv) (omega arith) (rw (c .before .before .before .before .wide-two .ensures, c .before .before .before .before .before .before .before .before .before .before .before .before .before .before .before .before .before .before .before .pre .starts-are) at (sym (c .before .enum-told .given .1) ∙ c .before .before .before .compare .ensures)))
+returns-9 : tie.Need-returns-9
+returns-9 c = search needs
 
-enum-told-2 : tie.Need-enum-told-2 Inv-loop μ-loop
-enum-told-2 c = search needs
+returns-10 : tie.Need-returns-10
+returns-10 c = search needs
 
-element-copy-out-result-2 : tie.Need-element-copy-out-result-2 Inv-loop μ-loop
-element-copy-out-result-2 c = omega (arith, c .before .before .before .before .before .before .before .before .loop .inv .last)
+returns-11 : tie.Need-returns-11
+returns-11 c = search needs
 
-add-result : tie.Need-add-result Inv-loop μ-loop
-add-result c = rw (c .before .before .before .before .before .before .before .before .before .before .before .before .before .before .before .before .before .before .before .pre .numbers-are) (omega (arith, small-number _ _ _ (c .before .before .before .before .before .before .before .before .before .loop .inv) (omega arith)))
+returns-12 : tie.Need-returns-12
+returns-12 c = search needs
 
-returns-4 : tie.Need-returns-4 Inv-loop μ-loop
-returns-4 c = rw (c .before .before .before .before .before .before .before .before .before .before .before .before .before .before .before .before .before .before .before .pre .numbers-are) (found-in-other-case _ _ _ (c .before .before .before .before .before .before .before .before .before .loop .inv) (omega arith) (rw (c .before .before .before .before .wide-two .ensures, c .before .before .before .before .before .before .before .before .before .before .before .before .before .before .before .before .before .before .before .pre .starts-are) at (sym (c .before .enum-told2 .given .1) ∙ c .before .before .before .compare .ensures)))
+returns-13 : tie.Need-returns-13
+returns-13 c = search needs
 
-enum-told-3 : tie.Need-enum-told-3 Inv-loop μ-loop
-enum-told-3 c = search needs
-
-add-row-2 : tie.Need-add-row-2 Inv-loop μ-loop
-add-row-2 c = omega arith
-
-loop-less-2 : tie.Need-loop-less-2 Inv-loop μ-loop
-loop-less-2 c = omega arith
-
-loop-again-2 : tie.Need-loop-again-2 Inv-loop μ-loop
-loop-again-2 c = not-here _ _ _ (c .before .before .before .before .before .before .before .before .loop .inv) (omega arith) (rw (c .before .before .before .wide-two .ensures, c .before .before .before .before .before .before .before .before .before .before .before .before .before .before .before .before .before .before .pre .starts-are) at (sym (c .enum-told3 .given .1) ∙ c .before .before .compare .ensures))
-
-returns-5 : tie.Need-returns-5 Inv-loop μ-loop
-returns-5 c = not-found _ _ _ (c .before .loop .inv) (omega arith)
+returns-14 : tie.Need-returns-14
+unfolding none known bytes
+returns-14 c = no-length (c .before .before .before .before .before .args .word .now) (length (c .before .before .before .before .before .args .word .now)) refl (rw (ne-eqb 3 (length (c .before .before .before .before .before .args .word .now)) (λ e. c .match .rest .0 .0 .0 .0 .0 .0 .0 .0 .0 .0 .0 .1 (sym e)), ne-eqb 4 (length (c .before .before .before .before .before .args .word .now)) (λ e. c .match .rest .0 .0 .0 .0 .0 .0 .0 .0 .0 .0 .1 (sym e)), ne-eqb 5 (length (c .before .before .before .before .before .args .word .now)) (λ e. c .match .rest .0 .0 .0 .0 .0 .0 .0 .0 .0 .1 (sym e)), ne-eqb 6 (length (c .before .before .before .before .before .args .word .now)) (λ e. c .match .rest .0 .0 .0 .0 .0 .0 .0 .0 .1 (sym e)), ne-eqb 7 (length (c .before .before .before .before .before .args .word .now)) (λ e. c .match .rest .0 .0 .0 .0 .0 .0 .0 .1 (sym e)), ne-eqb 8 (length (c .before .before .before .before .before .args .word .now)) (λ e. c .match .rest .0 .0 .0 .0 .0 .0 .1 (sym e)), ne-eqb 9 (length (c .before .before .before .before .before .args .word .now)) (λ e. c .match .rest .0 .0 .0 .0 .0 .1 (sym e)), ne-eqb 10 (length (c .before .before .before .before .before .args .word .now)) (λ e. c .match .rest .0 .0 .0 .0 .1 (sym e)), ne-eqb 11 (length (c .before .before .before .before .before .args .word .now)) (λ e. c .match .rest .0 .0 .0 .1 (sym e)), ne-eqb 12 (length (c .before .before .before .before .before .args .word .now)) (λ e. c .match .rest .0 .0 .1 (sym e)), ne-eqb 13 (length (c .before .before .before .before .before .args .word .now)) (λ e. c .match .rest .0 .1 (sym e)), ne-eqb 16 (length (c .before .before .before .before .before .args .word .now)) (λ e. c .match .rest .1 (sym e))) tt)
 
 pub number-of-word-spec : {M : Type 1} → statement M
 number-of-word-spec =
     tie.close
     (tie.spec
-    Inv-loop
-    μ-loop
     returns
-    returns-2
     shared-slice-read-lower-case
     lower-case-requires
-    add-wide
-    element-copy-out-wide
-    wide-requires
-    element-copy-out-wide-2
-    wide-requires-2
-    loop-holds
-    element-copy-out-if3
-    add-row
-    loop-less
-    loop-again
-    mul-wide-two
-    element-copy-out-wide-two
-    wide-two-requires
-    compare-requires
-    enum-told
-    element-copy-out-result
+    of-3-requires
+    of-4-requires
+    of-5-requires
+    of-6-requires
+    of-7-requires
+    of-8-requires
+    of-9-requires
+    of-10-requires
+    of-11-requires
+    of-12-requires
+    of-13-requires
+    of-16-requires
+    returns-2
     returns-3
-    enum-told-2
-    element-copy-out-result-2
-    add-result
     returns-4
-    enum-told-3
-    add-row-2
-    loop-less-2
-    loop-again-2
-    returns-5)
+    returns-5
+    returns-6
+    returns-7
+    returns-8
+    returns-9
+    returns-10
+    returns-11
+    returns-12
+    returns-13
+    returns-14)
