@@ -19,6 +19,7 @@ use crate::moves::TypeLoop;
 use crate::moves::TypeMove;
 use crate::moves::Verdict;
 use crate::moves::plain;
+use rows::kinds::IDENTIFIER;
 use rows::kinds::STAR;
 use rows::word_numbers::NO_WORD;
 use type_nodes::abstract_declarators::looks_like_abstract_declarator;
@@ -89,7 +90,10 @@ fn c_family_level(
         let shape = shape_at(tree, kinds, at, to);
         let word = exact_word(tree, kinds, words, at, to);
         let end = node_end(tree, kinds, at, to);
-        if takes_word(shape, word, st.declarator_started) {
+        if shape == IDENTIFIER {
+            if !takes_word(word, st.declarator_started) {
+                return Verdict::Fails(left);
+            }
             st.saw_type_word = true;
             before = shape;
             word_before = word;

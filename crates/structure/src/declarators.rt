@@ -196,12 +196,9 @@ pub fn is_type_word(tree: &[u32], kinds: &[u8], words: &[u8], from: usize, to: u
 
 // Where `c_family_node` goes on past a word, a `::` and an argument list.
 
-pub fn takes_word(shape: u8, word: u8, declarator_started: bool) -> bool
-    ensures { λ r. ⌜ r ≡ (eqb shape Identifier && (not «declarator_started» || is-c-family-declarator-qualifier word)) ⌝ }
+pub fn takes_word(word: u8, declarator_started: bool) -> bool
+    ensures { λ r. ⌜ r ≡ (not «declarator_started» || is-c-family-declarator-qualifier word) ⌝ }
 {
-    if shape != IDENTIFIER {
-        return false;
-    }
     if declarator_started {
         return is_c_family_declarator_qualifier(word);
     }

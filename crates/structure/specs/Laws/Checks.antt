@@ -14,7 +14,7 @@ use Rattle.reader.specs.Nodes.{Nodes, none, node, count}
 use Rattle.type_nodes.specs.Shapes.{NoNode, TemplateArguments}
 use Rattle.type_nodes.specs.Nodes.{empty, next, shape, node-identifier, exact-word, is-single-token}
 use Rattle.type_nodes.specs.Sets.{is-c-builtin-type-word, is-c-family-declarator-qualifier}
-use Rattle.type_nodes.specs.Moves.{Move, on, inside, arguments}
+use Rattle.type_nodes.specs.Moves.{Move, stop, on, inside, on-if, arguments}
 use Rattle.type_nodes.specs.Laws.Tests.{and-left, and-right}
 use Rattle.type_nodes.specs.Laws.SpecifierLoop.{word-specified}
 use Rattle.type_nodes.specs.Specifiers.{validate-c-decl-specifiers}
@@ -100,10 +100,10 @@ module _ (lang : ℕ) (kinds words : List ℕ) where
   twice-yes left = rw (limited-yes left) (limited-yes left)
 
   word-body : (x : Nodes) → empty x ≡ false → next x ≡ none → shape kinds x ≡ Identifier → type-body lang kinds words x ≡ plain true
-  unfolding type-end
+  unfolding type-end on-if
   word-body x full alone i =
       turn-on lang kinds words TypeState (type-move lang kinds words) type-end x NoNode no-word (type-state false false false) full (type-state true false false)
-      (word-taken lang NoNode (exactly no-word) (shape kinds x) (exact-word kinds words x) (shape kinds (next x)) false false false (rw i refl))
+      (word-taken lang NoNode (exactly no-word) (shape kinds x) (exact-word kinds words x) (shape kinds (next x)) false false false i refl)
       ∙ turn-end lang kinds words TypeState (type-move lang kinds words) type-end (next x) (shape kinds x) (node-identifier kinds words x) (type-state true false false) alone
 
   -- The code asks whether a type is one word.
@@ -177,10 +177,18 @@ module _ {lang : ℕ} {tree kinds words : List ℕ} {from to allowed left : ℕ}
   abbrev moves-here : Move TypeState
   moves-here = type-move lang kinds words (lp .left-shape) (lp .left-word) (lp .walk .rest) (type-state-of st)
 
-  pub at-word : {w : ℕ} → Of tree kinds at to (λ x. w ≡ exact-word kinds words x) → {r : Bool}
-      → r ≡ (eqb s Identifier && (not (st .«declarator_started») || is-c-family-declarator-qualifier w)) → r ≡ true
-      → moves-here ≡ on (type-state true (st .«declarator_started») (st .«saw_reference»))
-  at-word wd d y = rw (← sh (lp .walk .rest) (lp .walk .stands), ← wd (lp .walk .rest) (lp .walk .stands)) (word-taken lang _ _ s _ _ _ _ _ (sym d ∙ y))
+  module _ {w : ℕ} (wd : Of tree kinds at to (λ x. w ≡ exact-word kinds words x)) (i : s ≡ Identifier)
+      {r : Bool} (d : r ≡ (not (st .«declarator_started») || is-c-family-declarator-qualifier w)) where
+    word-here : moves-here ≡ on-if r (type-state true (st .«declarator_started») (st .«saw_reference»))
+    word-here = rw (← sh (lp .walk .rest) (lp .walk .stands), ← wd (lp .walk .rest) (lp .walk .stands)) (word-taken lang _ _ s _ _ _ _ _ i d)
+
+    pub at-word : r ≡ true → moves-here ≡ on (type-state true (st .«declarator_started») (st .«saw_reference»))
+    unfolding on-if
+    at-word y = word-here ∙ ap (λ (b : Bool). on-if b (type-state true (st .«declarator_started») (st .«saw_reference»))) y
+
+    pub at-wrong-word : r ≡ false → moves-here ≡ stop false
+    unfolding on-if
+    at-wrong-word n = word-here ∙ ap (λ (b : Bool). on-if b (type-state true (st .«declarator_started») (st .«saw_reference»))) n
 
   pub at-list : {r : Bool} → r ≡ (eqb s TemplateArguments && (eqb lang Cpp && eqb before Identifier)) → r ≡ true
       → moves-here ≡ inside arguments (type-state true (st .«declarator_started») (st .«saw_reference»))

@@ -140,11 +140,9 @@ module _ (lang left lw s w right : ℕ) (word started reference : Bool) where
 
 -- The three nodes that the loop takes at once.
 module _ (lang left lw s w right : ℕ) (word started reference : Bool) where
-  pub word-taken : (eqb s Identifier && (not started || is-c-family-declarator-qualifier w)) ≡ true → type-table lang left lw s w right word started reference ≡ on (type-state true started reference)
-  unfolding on-if
-  word-taken y =
-      sym (type-1 lang left lw s w right word started reference (eqb-true s Identifier (and-left (eqb s Identifier) (not started || is-c-family-declarator-qualifier w) y)))
-      ∙ ap (λ (ok : Bool). on-if ok (type-state true started reference)) (and-right (eqb s Identifier) (not started || is-c-family-declarator-qualifier w) y)
+  pub word-taken : s ≡ Identifier → {ok : Bool} → ok ≡ (not started || is-c-family-declarator-qualifier w)
+      → type-table lang left lw s w right word started reference ≡ on-if ok (type-state true started reference)
+  word-taken y d = sym (type-1 lang left lw s w right word started reference y) ∙ ap (λ (b : Bool). on-if b (type-state true started reference)) (sym d)
 
   pub scope-taken : (eqb s Scope && (eqb lang Cpp && scope-has-valid-neighbors left right)) ≡ true → type-table lang left lw s w right word started reference ≡ on (type-state word started reference)
   unfolding on-if

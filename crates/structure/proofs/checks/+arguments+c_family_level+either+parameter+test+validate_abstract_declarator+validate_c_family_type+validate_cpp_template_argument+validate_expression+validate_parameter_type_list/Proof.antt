@@ -11,11 +11,11 @@ use Rattle.structure.proofs.moves.Verdict.{the-type}
 use Rattle.type_nodes.specs.Moves.{arguments}
 use Rattle.structure.specs.Declarators.{type-end, declarator-end}
 use Rattle.structure.specs.Checks.{checked, test, validate-cpp-template-argument, validate-parameter, validate-parameter-type-list}
-use Rattle.structure.specs.Laws.Limits.{not-holds, not-fails}
+use Rattle.structure.specs.Laws.Limits.{not-holds, not-fails, limited-no}
 use Rattle.structure.specs.Laws.Walks.{walk-start, walk-formed, walk-stops, walk-holds, walk-further, walk-fits, walk-below, walk-after}
 use Rattle.structure.specs.Laws.Loops.{entry-spent, entry, head-fails, head-holds, run-start, run-end, run-stop, run-on, run-stops, run-inside}
 use Rattle.structure.specs.Laws.Checks.{InType, InDeclarator, InExpression, type-entry, declarator-entry, expression-entry, word-type, no-word-before, type-moved}
-use Rattle.structure.specs.Laws.Checks.{at-word, at-scope, at-list}
+use Rattle.structure.specs.Laws.Checks.{at-word, at-wrong-word, at-scope, at-list}
 use Rattle.structure.specs.Laws.Checks.{declarator-moved, expression-moved, waits-on, waits-inside}
 use Rattle.structure.specs.Laws.Inside.{empty-of, full-of, no-node, some-node, no-bound, bound-of, by-name, either-held, either-else, both-failed, both-then}
 use Rattle.structure.specs.Laws.Inside.{first-settles, then-second, told, inside-declarator, group-declarator, group-parameters, parameters-start}
@@ -304,44 +304,47 @@ c-family-level-node-end-requires t c κs = (c .before .before .loop-test .taken,
 c-family-level-takes-word-requires : (t : ℕ) → c-family-level-lts.Need-takes-word-requires (c-family-level-calls t) (c-family-level-at t) c-family-level.Post c-family-level-Inv-loop c-family-level-μ-loop
 c-family-level-takes-word-requires t c κs = search needs
 
+c-family-level-returns-2 : (t : ℕ) → c-family-level-lts.Need-returns-2 (c-family-level-calls t) (c-family-level-at t) c-family-level.Post c-family-level-Inv-loop c-family-level-μ-loop
+c-family-level-returns-2 t c = run-stop (c .before .before .before .before .before .before .before .loop .inv) (c .before .before .before .before .before .before .loop-test .taken) (at-wrong-word (c .before .before .before .before .before .before .before .loop .inv) (c .before .before .before .before .before .shape-at .ensures) (c .before .before .before .before .exact-word .ensures) (c .before .before .if2 .taken) (c .before .takes-word .ensures) (not-true _ (c .if3 .taken))) (sym (limited-no _))
+
 c-family-level-loop-less : (t : ℕ) → c-family-level-lts.Need-loop-less (c-family-level-calls t) (c-family-level-at t) c-family-level.Post c-family-level-Inv-loop c-family-level-μ-loop
-c-family-level-loop-less t c = omega (arith, walk-further (c .before .before .before .before .before .before .loop .inv .walk) (c .before .before .before .before .before .loop-test .taken) (c .before .before .node-end .ensures), walk-fits (c .before .before .before .before .before .before .loop .inv .walk) (c .before .before .before .before .before .loop-test .taken) (c .before .before .node-end .ensures))
+c-family-level-loop-less t c = omega (arith, walk-further (c .before .before .before .before .before .before .before .loop .inv .walk) (c .before .before .before .before .before .before .loop-test .taken) (c .before .before .before .node-end .ensures), walk-fits (c .before .before .before .before .before .before .before .loop .inv .walk) (c .before .before .before .before .before .before .loop-test .taken) (c .before .before .before .node-end .ensures))
 
 c-family-level-loop-again : (t : ℕ) → c-family-level-lts.Need-loop-again (c-family-level-calls t) (c-family-level-at t) c-family-level.Post c-family-level-Inv-loop c-family-level-μ-loop
-c-family-level-loop-again t c = run-on (c .before .before .before .before .before .before .loop .inv) (c .before .before .before .before .before .loop-test .taken) (c .before .before .node-end .ensures) (at-word (c .before .before .before .before .before .before .loop .inv) (c .before .before .before .before .shape-at .ensures) (c .before .before .before .exact-word .ensures) (c .before .takes-word .ensures) (c .if2 .taken)) (c .before .before .before .before .shape-at .ensures _ (c .before .before .before .before .before .before .loop .inv .walk .stands), c .before .before .before .exact-word .ensures _ (c .before .before .before .before .before .before .loop .inv .walk .stands))
+c-family-level-loop-again t c = run-on (c .before .before .before .before .before .before .before .loop .inv) (c .before .before .before .before .before .before .loop-test .taken) (c .before .before .before .node-end .ensures) (at-word (c .before .before .before .before .before .before .before .loop .inv) (c .before .before .before .before .before .shape-at .ensures) (c .before .before .before .before .exact-word .ensures) (c .before .before .if2 .taken) (c .before .takes-word .ensures) (not-false _ (c .if3 .left))) (c .before .before .before .before .before .shape-at .ensures _ (c .before .before .before .before .before .before .before .loop .inv .walk .stands), c .before .before .before .before .exact-word .ensures _ (c .before .before .before .before .before .before .before .loop .inv .walk .stands))
 
 c-family-level-shape-at-requires-2 : (t : ℕ) → c-family-level-lts.Need-shape-at-requires-2 (c-family-level-calls t) (c-family-level-at t) c-family-level.Post c-family-level-Inv-loop c-family-level-μ-loop
-c-family-level-shape-at-requires-2 t c κs = walk-after (c .before .before .before .before .before .before .loop .inv .walk) (c .before .before .before .before .before .loop-test .taken) (c .before .before .node-end .ensures)
+c-family-level-shape-at-requires-2 t c κs = walk-after (c .before .before .before .before .before .loop .inv .walk) (c .before .before .before .before .loop-test .taken) (c .before .node-end .ensures)
 
 c-family-level-takes-scope-requires : (t : ℕ) → c-family-level-lts.Need-takes-scope-requires (c-family-level-calls t) (c-family-level-at t) c-family-level.Post c-family-level-Inv-loop c-family-level-μ-loop
 c-family-level-takes-scope-requires t c κs = search needs
 
 c-family-level-loop-less-2 : (t : ℕ) → c-family-level-lts.Need-loop-less-2 (c-family-level-calls t) (c-family-level-at t) c-family-level.Post c-family-level-Inv-loop c-family-level-μ-loop
-c-family-level-loop-less-2 t c = omega (arith, walk-further (c .before .before .before .before .before .before .before .before .before .loop .inv .walk) (c .before .before .before .before .before .before .before .before .loop-test .taken) (c .before .before .before .before .before .node-end .ensures), walk-fits (c .before .before .before .before .before .before .before .before .before .loop .inv .walk) (c .before .before .before .before .before .before .before .before .loop-test .taken) (c .before .before .before .before .before .node-end .ensures))
+c-family-level-loop-less-2 t c = omega (arith, walk-further (c .before .before .before .before .before .before .before .before .loop .inv .walk) (c .before .before .before .before .before .before .before .loop-test .taken) (c .before .before .before .before .node-end .ensures), walk-fits (c .before .before .before .before .before .before .before .before .loop .inv .walk) (c .before .before .before .before .before .before .before .loop-test .taken) (c .before .before .before .before .node-end .ensures))
 
 c-family-level-loop-again-2 : (t : ℕ) → c-family-level-lts.Need-loop-again-2 (c-family-level-calls t) (c-family-level-at t) c-family-level.Post c-family-level-Inv-loop c-family-level-μ-loop
-c-family-level-loop-again-2 t c = run-on (c .before .before .before .before .before .before .before .before .before .loop .inv) (c .before .before .before .before .before .before .before .before .loop-test .taken) (c .before .before .before .before .before .node-end .ensures) (at-scope (c .before .before .before .before .before .before .before .before .before .loop .inv) (c .before .before .before .before .before .before .before .shape-at .ensures) (c .before .before .before .before .before .before .before .before .loop-test .taken) (c .before .before .before .before .before .node-end .ensures) (c .before .before .shape-at2 .ensures) (c .before .takes-scope .ensures) (c .if3 .taken)) (c .before .before .before .before .before .before .before .shape-at .ensures _ (c .before .before .before .before .before .before .before .before .before .loop .inv .walk .stands), c .before .before .before .before .before .before .exact-word .ensures _ (c .before .before .before .before .before .before .before .before .before .loop .inv .walk .stands))
+c-family-level-loop-again-2 t c = run-on (c .before .before .before .before .before .before .before .before .loop .inv) (c .before .before .before .before .before .before .before .loop-test .taken) (c .before .before .before .before .node-end .ensures) (at-scope (c .before .before .before .before .before .before .before .before .loop .inv) (c .before .before .before .before .before .before .shape-at .ensures) (c .before .before .before .before .before .before .before .loop-test .taken) (c .before .before .before .before .node-end .ensures) (c .before .before .shape-at2 .ensures) (c .before .takes-scope .ensures) (c .if4 .taken)) (c .before .before .before .before .before .before .shape-at .ensures _ (c .before .before .before .before .before .before .before .before .loop .inv .walk .stands), c .before .before .before .before .before .exact-word .ensures _ (c .before .before .before .before .before .before .before .before .loop .inv .walk .stands))
 
 c-family-level-takes-list-requires : (t : ℕ) → c-family-level-lts.Need-takes-list-requires (c-family-level-calls t) (c-family-level-at t) c-family-level.Post c-family-level-Inv-loop c-family-level-μ-loop
 c-family-level-takes-list-requires t c κs = search needs
 
 c-family-level-add-arguments : (t : ℕ) → c-family-level-lts.Need-add-arguments (c-family-level-calls t) (c-family-level-at t) c-family-level.Post c-family-level-Inv-loop c-family-level-μ-loop
-c-family-level-add-arguments t c = omega (arith, c .before .before .before .before .before .before .before .before .before .before .before .loop .inv .walk .few)
+c-family-level-add-arguments t c = omega (arith, c .before .before .before .before .before .before .before .before .before .before .loop .inv .walk .few)
 
 c-family-level-arguments-requires : (t : ℕ) → c-family-level-lts.Need-arguments-requires (c-family-level-calls t) (c-family-level-at t) c-family-level.Post c-family-level-Inv-loop c-family-level-μ-loop
-c-family-level-arguments-requires t c κs = (omega (arith, walk-further (c .before .before .before .before .before .before .before .before .before .before .before .loop .inv .walk) (c .before .before .before .before .before .before .before .before .before .before .loop-test .taken) (c .before .before .before .before .before .before .before .node-end .ensures), walk-fits (c .before .before .before .before .before .before .before .before .before .before .before .loop .inv .walk) (c .before .before .before .before .before .before .before .before .before .before .loop-test .taken) (c .before .before .before .before .before .before .before .node-end .ensures), c .before .before .before .before .before .before .before .before .before .before .before .loop .inv .walk .past, c .before .before .before .before .before .before .before .before .before .before .before .before .before .before .before .before .before .pre .0), walk-below (c .before .before .before .before .before .before .before .before .before .before .before .loop .inv .walk) (c .before .before .before .before .before .before .before .before .before .before .loop-test .taken) (c .before .before .before .before .before .before .before .node-end .ensures) (c .before .before .before .before .before .before .before .before .before .before .before .before .before .before .before .before .before .pre .1 .1 .worded))
+c-family-level-arguments-requires t c κs = (omega (arith, walk-further (c .before .before .before .before .before .before .before .before .before .before .loop .inv .walk) (c .before .before .before .before .before .before .before .before .before .loop-test .taken) (c .before .before .before .before .before .before .node-end .ensures), walk-fits (c .before .before .before .before .before .before .before .before .before .before .loop .inv .walk) (c .before .before .before .before .before .before .before .before .before .loop-test .taken) (c .before .before .before .before .before .before .node-end .ensures), c .before .before .before .before .before .before .before .before .before .before .loop .inv .walk .past, c .before .before .before .before .before .before .before .before .before .before .before .before .before .before .before .before .pre .0), walk-below (c .before .before .before .before .before .before .before .before .before .before .loop .inv .walk) (c .before .before .before .before .before .before .before .before .before .loop-test .taken) (c .before .before .before .before .before .before .node-end .ensures) (c .before .before .before .before .before .before .before .before .before .before .before .before .before .before .before .before .pre .1 .1 .worded))
 
 c-family-level-enum-known-said : (t : ℕ) → c-family-level-lts.Need-enum-known-said (c-family-level-calls t) (c-family-level-at t) c-family-level.Post c-family-level-Inv-loop c-family-level-μ-loop
 c-family-level-enum-known-said t c = search needs
 
-c-family-level-returns-2 : (t : ℕ) → c-family-level-lts.Need-returns-2 (c-family-level-calls t) (c-family-level-at t) c-family-level.Post c-family-level-Inv-loop c-family-level-μ-loop
-c-family-level-returns-2 t c = run-stops (c .before .before .before .before .before .before .before .before .before .before .before .before .before .loop .inv) (c .before .before .before .before .before .before .before .before .before .before .before .before .loop-test .taken) (c .before .before .before .before .before .before .before .before .before .node-end .ensures) (at-list (c .before .before .before .before .before .before .before .before .before .before .before .before .before .loop .inv) (c .before .before .before .before .before .before .before .before .before .before .before .shape-at .ensures) (c .before .before .before .takes-list .ensures) (c .before .before .if4 .taken)) (c .before .arguments .ensures) (not-holds (tagOf the-type) (λ l. refl) _ (c .match .keys2))
+c-family-level-returns-3 : (t : ℕ) → c-family-level-lts.Need-returns-3 (c-family-level-calls t) (c-family-level-at t) c-family-level.Post c-family-level-Inv-loop c-family-level-μ-loop
+c-family-level-returns-3 t c = run-stops (c .before .before .before .before .before .before .before .before .before .before .before .before .loop .inv) (c .before .before .before .before .before .before .before .before .before .before .before .loop-test .taken) (c .before .before .before .before .before .before .before .before .node-end .ensures) (at-list (c .before .before .before .before .before .before .before .before .before .before .before .before .loop .inv) (c .before .before .before .before .before .before .before .before .before .before .shape-at .ensures) (c .before .before .before .takes-list .ensures) (c .before .before .if5 .taken)) (c .before .arguments .ensures) (not-holds (tagOf the-type) (λ l. refl) _ (c .match .keys2))
 
 c-family-level-loop-less-3 : (t : ℕ) → c-family-level-lts.Need-loop-less-3 (c-family-level-calls t) (c-family-level-at t) c-family-level.Post c-family-level-Inv-loop c-family-level-μ-loop
-c-family-level-loop-less-3 t c = omega (arith, walk-further (c .before .before .before .before .before .before .before .before .before .before .before .before .before .before .before .loop .inv .walk) (c .before .before .before .before .before .before .before .before .before .before .before .before .before .before .loop-test .taken) (c .before .before .before .before .before .before .before .before .before .before .before .node-end .ensures), walk-fits (c .before .before .before .before .before .before .before .before .before .before .before .before .before .before .before .loop .inv .walk) (c .before .before .before .before .before .before .before .before .before .before .before .before .before .before .loop-test .taken) (c .before .before .before .before .before .before .before .before .before .before .before .node-end .ensures))
+c-family-level-loop-less-3 t c = omega (arith, walk-further (c .before .before .before .before .before .before .before .before .before .before .before .before .before .before .loop .inv .walk) (c .before .before .before .before .before .before .before .before .before .before .before .before .before .loop-test .taken) (c .before .before .before .before .before .before .before .before .before .before .node-end .ensures), walk-fits (c .before .before .before .before .before .before .before .before .before .before .before .before .before .before .loop .inv .walk) (c .before .before .before .before .before .before .before .before .before .before .before .before .before .loop-test .taken) (c .before .before .before .before .before .before .before .before .before .before .node-end .ensures))
 
 c-family-level-loop-again-3 : (t : ℕ) → c-family-level-lts.Need-loop-again-3 (c-family-level-calls t) (c-family-level-at t) c-family-level.Post c-family-level-Inv-loop c-family-level-μ-loop
-c-family-level-loop-again-3 t c = run-inside (c .before .before .before .before .before .before .before .before .before .before .before .before .before .before .before .loop .inv) (c .before .before .before .before .before .before .before .before .before .before .before .before .before .before .loop-test .taken) (c .before .before .before .before .before .before .before .before .before .before .before .node-end .ensures) (at-list (c .before .before .before .before .before .before .before .before .before .before .before .before .before .before .before .loop .inv) (c .before .before .before .before .before .before .before .before .before .before .before .before .before .shape-at .ensures) (c .before .before .before .before .before .takes-list .ensures) (c .before .before .before .before .if4 .taken)) (c .before .before .before .arguments .ensures) (c .before .said .given .1) (c .before .before .before .before .before .before .before .before .before .before .before .before .before .shape-at .ensures _ (c .before .before .before .before .before .before .before .before .before .before .before .before .before .before .before .loop .inv .walk .stands), c .before .before .before .before .before .before .before .before .before .before .before .before .exact-word .ensures _ (c .before .before .before .before .before .before .before .before .before .before .before .before .before .before .before .loop .inv .walk .stands))
+c-family-level-loop-again-3 t c = run-inside (c .before .before .before .before .before .before .before .before .before .before .before .before .before .before .loop .inv) (c .before .before .before .before .before .before .before .before .before .before .before .before .before .loop-test .taken) (c .before .before .before .before .before .before .before .before .before .before .node-end .ensures) (at-list (c .before .before .before .before .before .before .before .before .before .before .before .before .before .before .loop .inv) (c .before .before .before .before .before .before .before .before .before .before .before .before .shape-at .ensures) (c .before .before .before .before .before .takes-list .ensures) (c .before .before .before .before .if5 .taken)) (c .before .before .before .arguments .ensures) (c .before .said .given .1) (c .before .before .before .before .before .before .before .before .before .before .before .before .shape-at .ensures _ (c .before .before .before .before .before .before .before .before .before .before .before .before .before .before .loop .inv .walk .stands), c .before .before .before .before .before .before .before .before .before .before .before .exact-word .ensures _ (c .before .before .before .before .before .before .before .before .before .before .before .before .before .before .loop .inv .walk .stands))
 
 c-family-level-c-family-node-requires : (t : ℕ) → c-family-level-lts.Need-c-family-node-requires (c-family-level-calls t) (c-family-level-at t) c-family-level.Post c-family-level-Inv-loop c-family-level-μ-loop
 c-family-level-c-family-node-requires t c κs = search needs
@@ -352,8 +355,8 @@ c-family-level-enum-known-act t c = search needs
 c-family-level-plain-requires : (t : ℕ) → c-family-level-lts.Need-plain-requires (c-family-level-calls t) (c-family-level-at t) c-family-level.Post c-family-level-Inv-loop c-family-level-μ-loop
 c-family-level-plain-requires t c κs = search needs
 
-c-family-level-returns-3 : (t : ℕ) → c-family-level-lts.Need-returns-3 (c-family-level-calls t) (c-family-level-at t) c-family-level.Post c-family-level-Inv-loop c-family-level-μ-loop
-c-family-level-returns-3 t c = run-stop (c .before .before .before .before .before .before .before .before .before .before .before .before .before .before .before .before .loop .inv) (c .before .before .before .before .before .before .before .before .before .before .before .before .before .before .before .loop-test .taken) (type-moved (c .before .before .before .before .before .before .before .before .before .before .before .before .before .before .before .before .loop .inv) (c .before .before .before .before .before .before .before .before .before .before .before .before .before .before .before .loop-test .taken) (c .before .before .before .before .before .before .before .before .before .before .before .before .before .before .shape-at .ensures) (c .before .before .before .before .before .before .before .before .before .before .before .before .before .exact-word .ensures) (c .before .before .before .before .before .before .before .before .before .before .before .before .node-end .ensures) (c .before .before .before .before .before .before .before .before .before .shape-at2 .ensures) (c .before .before .before .before .c-family-node .ensures) (c .before .before .act .given .1)) (c .plain .ensures)
+c-family-level-returns-4 : (t : ℕ) → c-family-level-lts.Need-returns-4 (c-family-level-calls t) (c-family-level-at t) c-family-level.Post c-family-level-Inv-loop c-family-level-μ-loop
+c-family-level-returns-4 t c = run-stop (c .before .before .before .before .before .before .before .before .before .before .before .before .before .before .before .loop .inv) (c .before .before .before .before .before .before .before .before .before .before .before .before .before .before .loop-test .taken) (type-moved (c .before .before .before .before .before .before .before .before .before .before .before .before .before .before .before .loop .inv) (c .before .before .before .before .before .before .before .before .before .before .before .before .before .before .loop-test .taken) (c .before .before .before .before .before .before .before .before .before .before .before .before .before .shape-at .ensures) (c .before .before .before .before .before .before .before .before .before .before .before .before .exact-word .ensures) (c .before .before .before .before .before .before .before .before .before .before .before .node-end .ensures) (c .before .before .before .before .before .before .before .before .before .shape-at2 .ensures) (c .before .before .before .before .c-family-node .ensures) (c .before .before .act .given .1)) (c .plain .ensures)
 
 c-family-level-enum-known-act-2 : (t : ℕ) → c-family-level-lts.Need-enum-known-act-2 (c-family-level-calls t) (c-family-level-at t) c-family-level.Post c-family-level-Inv-loop c-family-level-μ-loop
 c-family-level-enum-known-act-2 t c = search needs
@@ -362,35 +365,35 @@ c-family-level-enum-known-act-3 : (t : ℕ) → c-family-level-lts.Need-enum-kno
 c-family-level-enum-known-act-3 t c = search needs
 
 c-family-level-add-test : (t : ℕ) → c-family-level-lts.Need-add-test (c-family-level-calls t) (c-family-level-at t) c-family-level.Post c-family-level-Inv-loop c-family-level-μ-loop
-c-family-level-add-test t c = omega (arith, c .before .before .before .before .before .before .before .before .before .before .before .before .before .before .before .loop .inv .walk .few)
+c-family-level-add-test t c = omega (arith, c .before .before .before .before .before .before .before .before .before .before .before .before .before .before .loop .inv .walk .few)
 
 c-family-level-test-requires : (t : ℕ) → c-family-level-lts.Need-test-requires (c-family-level-calls t) (c-family-level-at t) c-family-level.Post c-family-level-Inv-loop c-family-level-μ-loop
-c-family-level-test-requires t c κs = (omega (arith, walk-further (c .before .before .before .before .before .before .before .before .before .before .before .before .before .before .before .loop .inv .walk) (c .before .before .before .before .before .before .before .before .before .before .before .before .before .before .loop-test .taken) (c .before .before .before .before .before .before .before .before .before .before .before .node-end .ensures), walk-fits (c .before .before .before .before .before .before .before .before .before .before .before .before .before .before .before .loop .inv .walk) (c .before .before .before .before .before .before .before .before .before .before .before .before .before .before .loop-test .taken) (c .before .before .before .before .before .before .before .before .before .before .before .node-end .ensures), c .before .before .before .before .before .before .before .before .before .before .before .before .before .before .before .loop .inv .walk .past, c .before .before .before .before .before .before .before .before .before .before .before .before .before .before .before .before .before .before .before .before .before .pre .0), walk-below (c .before .before .before .before .before .before .before .before .before .before .before .before .before .before .before .loop .inv .walk) (c .before .before .before .before .before .before .before .before .before .before .before .before .before .before .loop-test .taken) (c .before .before .before .before .before .before .before .before .before .before .before .node-end .ensures) (c .before .before .before .before .before .before .before .before .before .before .before .before .before .before .before .before .before .before .before .before .before .pre .1 .1 .worded))
+c-family-level-test-requires t c κs = (omega (arith, walk-further (c .before .before .before .before .before .before .before .before .before .before .before .before .before .before .loop .inv .walk) (c .before .before .before .before .before .before .before .before .before .before .before .before .before .loop-test .taken) (c .before .before .before .before .before .before .before .before .before .before .node-end .ensures), walk-fits (c .before .before .before .before .before .before .before .before .before .before .before .before .before .before .loop .inv .walk) (c .before .before .before .before .before .before .before .before .before .before .before .before .before .loop-test .taken) (c .before .before .before .before .before .before .before .before .before .before .node-end .ensures), c .before .before .before .before .before .before .before .before .before .before .before .before .before .before .loop .inv .walk .past, c .before .before .before .before .before .before .before .before .before .before .before .before .before .before .before .before .before .before .before .before .pre .0), walk-below (c .before .before .before .before .before .before .before .before .before .before .before .before .before .before .loop .inv .walk) (c .before .before .before .before .before .before .before .before .before .before .before .before .before .loop-test .taken) (c .before .before .before .before .before .before .before .before .before .before .node-end .ensures) (c .before .before .before .before .before .before .before .before .before .before .before .before .before .before .before .before .before .before .before .before .pre .1 .1 .worded))
 
 c-family-level-enum-known-said-2 : (t : ℕ) → c-family-level-lts.Need-enum-known-said-2 (c-family-level-calls t) (c-family-level-at t) c-family-level.Post c-family-level-Inv-loop c-family-level-μ-loop
 c-family-level-enum-known-said-2 t c = search needs
 
-c-family-level-returns-4 : (t : ℕ) → c-family-level-lts.Need-returns-4 (c-family-level-calls t) (c-family-level-at t) c-family-level.Post c-family-level-Inv-loop c-family-level-μ-loop
-c-family-level-returns-4 t c = run-stops (c .before .before .before .before .before .before .before .before .before .before .before .before .before .before .before .before .before .loop .inv) (c .before .before .before .before .before .before .before .before .before .before .before .before .before .before .before .before .loop-test .taken) (c .before .before .before .before .before .before .before .before .before .before .before .before .before .node-end .ensures) (type-moved (c .before .before .before .before .before .before .before .before .before .before .before .before .before .before .before .before .before .loop .inv) (c .before .before .before .before .before .before .before .before .before .before .before .before .before .before .before .before .loop-test .taken) (c .before .before .before .before .before .before .before .before .before .before .before .before .before .before .before .shape-at .ensures) (c .before .before .before .before .before .before .before .before .before .before .before .before .before .before .exact-word .ensures) (c .before .before .before .before .before .before .before .before .before .before .before .before .before .node-end .ensures) (c .before .before .before .before .before .before .before .before .before .before .shape-at2 .ensures) (c .before .before .before .before .before .c-family-node .ensures) (c .before .before .before .act3 .given .1)) (c .before .test .ensures) (not-holds (tagOf the-type) (λ l. refl) _ (c .match3 .keys2))
+c-family-level-returns-5 : (t : ℕ) → c-family-level-lts.Need-returns-5 (c-family-level-calls t) (c-family-level-at t) c-family-level.Post c-family-level-Inv-loop c-family-level-μ-loop
+c-family-level-returns-5 t c = run-stops (c .before .before .before .before .before .before .before .before .before .before .before .before .before .before .before .before .loop .inv) (c .before .before .before .before .before .before .before .before .before .before .before .before .before .before .before .loop-test .taken) (c .before .before .before .before .before .before .before .before .before .before .before .before .node-end .ensures) (type-moved (c .before .before .before .before .before .before .before .before .before .before .before .before .before .before .before .before .loop .inv) (c .before .before .before .before .before .before .before .before .before .before .before .before .before .before .before .loop-test .taken) (c .before .before .before .before .before .before .before .before .before .before .before .before .before .before .shape-at .ensures) (c .before .before .before .before .before .before .before .before .before .before .before .before .before .exact-word .ensures) (c .before .before .before .before .before .before .before .before .before .before .before .before .node-end .ensures) (c .before .before .before .before .before .before .before .before .before .before .shape-at2 .ensures) (c .before .before .before .before .before .c-family-node .ensures) (c .before .before .before .act3 .given .1)) (c .before .test .ensures) (not-holds (tagOf the-type) (λ l. refl) _ (c .match3 .keys2))
 
 c-family-level-loop-less-4 : (t : ℕ) → c-family-level-lts.Need-loop-less-4 (c-family-level-calls t) (c-family-level-at t) c-family-level.Post c-family-level-Inv-loop c-family-level-μ-loop
-c-family-level-loop-less-4 t c = omega (arith, walk-further (c .before .before .before .before .before .before .before .before .before .before .before .before .before .before .before .loop .inv .walk) (c .before .before .before .before .before .before .before .before .before .before .before .before .before .before .loop-test .taken) (c .before .before .before .before .before .before .before .before .before .before .before .node-end .ensures), walk-fits (c .before .before .before .before .before .before .before .before .before .before .before .before .before .before .before .loop .inv .walk) (c .before .before .before .before .before .before .before .before .before .before .before .before .before .before .loop-test .taken) (c .before .before .before .before .before .before .before .before .before .before .before .node-end .ensures))
+c-family-level-loop-less-4 t c = omega (arith, walk-further (c .before .before .before .before .before .before .before .before .before .before .before .before .before .before .loop .inv .walk) (c .before .before .before .before .before .before .before .before .before .before .before .before .before .loop-test .taken) (c .before .before .before .before .before .before .before .before .before .before .node-end .ensures), walk-fits (c .before .before .before .before .before .before .before .before .before .before .before .before .before .before .loop .inv .walk) (c .before .before .before .before .before .before .before .before .before .before .before .before .before .loop-test .taken) (c .before .before .before .before .before .before .before .before .before .before .node-end .ensures))
 
 c-family-level-loop-again-4 : (t : ℕ) → c-family-level-lts.Need-loop-again-4 (c-family-level-calls t) (c-family-level-at t) c-family-level.Post c-family-level-Inv-loop c-family-level-μ-loop
-c-family-level-loop-again-4 t c = run-on (c .before .before .before .before .before .before .before .before .before .before .before .before .before .before .before .loop .inv) (c .before .before .before .before .before .before .before .before .before .before .before .before .before .before .loop-test .taken) (c .before .before .before .before .before .before .before .before .before .before .before .node-end .ensures) (type-moved (c .before .before .before .before .before .before .before .before .before .before .before .before .before .before .before .loop .inv) (c .before .before .before .before .before .before .before .before .before .before .before .before .before .before .loop-test .taken) (c .before .before .before .before .before .before .before .before .before .before .before .before .before .shape-at .ensures) (c .before .before .before .before .before .before .before .before .before .before .before .before .exact-word .ensures) (c .before .before .before .before .before .before .before .before .before .before .before .node-end .ensures) (c .before .before .before .before .before .before .before .before .shape-at2 .ensures) (c .before .before .before .c-family-node .ensures) (c .before .act2 .given .1)) (c .before .before .before .before .before .before .before .before .before .before .before .before .before .shape-at .ensures _ (c .before .before .before .before .before .before .before .before .before .before .before .before .before .before .before .loop .inv .walk .stands), c .before .before .before .before .before .before .before .before .before .before .before .before .exact-word .ensures _ (c .before .before .before .before .before .before .before .before .before .before .before .before .before .before .before .loop .inv .walk .stands))
+c-family-level-loop-again-4 t c = run-on (c .before .before .before .before .before .before .before .before .before .before .before .before .before .before .loop .inv) (c .before .before .before .before .before .before .before .before .before .before .before .before .before .loop-test .taken) (c .before .before .before .before .before .before .before .before .before .before .node-end .ensures) (type-moved (c .before .before .before .before .before .before .before .before .before .before .before .before .before .before .loop .inv) (c .before .before .before .before .before .before .before .before .before .before .before .before .before .loop-test .taken) (c .before .before .before .before .before .before .before .before .before .before .before .before .shape-at .ensures) (c .before .before .before .before .before .before .before .before .before .before .before .exact-word .ensures) (c .before .before .before .before .before .before .before .before .before .before .node-end .ensures) (c .before .before .before .before .before .before .before .before .shape-at2 .ensures) (c .before .before .before .c-family-node .ensures) (c .before .act2 .given .1)) (c .before .before .before .before .before .before .before .before .before .before .before .before .shape-at .ensures _ (c .before .before .before .before .before .before .before .before .before .before .before .before .before .before .loop .inv .walk .stands), c .before .before .before .before .before .before .before .before .before .before .before .exact-word .ensures _ (c .before .before .before .before .before .before .before .before .before .before .before .before .before .before .loop .inv .walk .stands))
 
 c-family-level-loop-less-5 : (t : ℕ) → c-family-level-lts.Need-loop-less-5 (c-family-level-calls t) (c-family-level-at t) c-family-level.Post c-family-level-Inv-loop c-family-level-μ-loop
-c-family-level-loop-less-5 t c = omega (arith, walk-further (c .before .before .before .before .before .before .before .before .before .before .before .before .before .before .before .before .before .before .before .loop .inv .walk) (c .before .before .before .before .before .before .before .before .before .before .before .before .before .before .before .before .before .before .loop-test .taken) (c .before .before .before .before .before .before .before .before .before .before .before .before .before .before .before .node-end .ensures), walk-fits (c .before .before .before .before .before .before .before .before .before .before .before .before .before .before .before .before .before .before .before .loop .inv .walk) (c .before .before .before .before .before .before .before .before .before .before .before .before .before .before .before .before .before .before .loop-test .taken) (c .before .before .before .before .before .before .before .before .before .before .before .before .before .before .before .node-end .ensures))
+c-family-level-loop-less-5 t c = omega (arith, walk-further (c .before .before .before .before .before .before .before .before .before .before .before .before .before .before .before .before .before .before .loop .inv .walk) (c .before .before .before .before .before .before .before .before .before .before .before .before .before .before .before .before .before .loop-test .taken) (c .before .before .before .before .before .before .before .before .before .before .before .before .before .before .node-end .ensures), walk-fits (c .before .before .before .before .before .before .before .before .before .before .before .before .before .before .before .before .before .before .loop .inv .walk) (c .before .before .before .before .before .before .before .before .before .before .before .before .before .before .before .before .before .loop-test .taken) (c .before .before .before .before .before .before .before .before .before .before .before .before .before .before .node-end .ensures))
 
 c-family-level-loop-again-5 : (t : ℕ) → c-family-level-lts.Need-loop-again-5 (c-family-level-calls t) (c-family-level-at t) c-family-level.Post c-family-level-Inv-loop c-family-level-μ-loop
-c-family-level-loop-again-5 t c = run-inside (c .before .before .before .before .before .before .before .before .before .before .before .before .before .before .before .before .before .before .before .loop .inv) (c .before .before .before .before .before .before .before .before .before .before .before .before .before .before .before .before .before .before .loop-test .taken) (c .before .before .before .before .before .before .before .before .before .before .before .before .before .before .before .node-end .ensures) (type-moved (c .before .before .before .before .before .before .before .before .before .before .before .before .before .before .before .before .before .before .before .loop .inv) (c .before .before .before .before .before .before .before .before .before .before .before .before .before .before .before .before .before .before .loop-test .taken) (c .before .before .before .before .before .before .before .before .before .before .before .before .before .before .before .before .before .shape-at .ensures) (c .before .before .before .before .before .before .before .before .before .before .before .before .before .before .before .before .exact-word .ensures) (c .before .before .before .before .before .before .before .before .before .before .before .before .before .before .before .node-end .ensures) (c .before .before .before .before .before .before .before .before .before .before .before .before .shape-at2 .ensures) (c .before .before .before .before .before .before .before .c-family-node .ensures) (c .before .before .before .before .before .act3 .given .1)) (c .before .before .before .test .ensures) (c .before .said2 .given .1) (c .before .before .before .before .before .before .before .before .before .before .before .before .before .before .before .before .before .shape-at .ensures _ (c .before .before .before .before .before .before .before .before .before .before .before .before .before .before .before .before .before .before .before .loop .inv .walk .stands), c .before .before .before .before .before .before .before .before .before .before .before .before .before .before .before .before .exact-word .ensures _ (c .before .before .before .before .before .before .before .before .before .before .before .before .before .before .before .before .before .before .before .loop .inv .walk .stands))
+c-family-level-loop-again-5 t c = run-inside (c .before .before .before .before .before .before .before .before .before .before .before .before .before .before .before .before .before .before .loop .inv) (c .before .before .before .before .before .before .before .before .before .before .before .before .before .before .before .before .before .loop-test .taken) (c .before .before .before .before .before .before .before .before .before .before .before .before .before .before .node-end .ensures) (type-moved (c .before .before .before .before .before .before .before .before .before .before .before .before .before .before .before .before .before .before .loop .inv) (c .before .before .before .before .before .before .before .before .before .before .before .before .before .before .before .before .before .loop-test .taken) (c .before .before .before .before .before .before .before .before .before .before .before .before .before .before .before .before .shape-at .ensures) (c .before .before .before .before .before .before .before .before .before .before .before .before .before .before .before .exact-word .ensures) (c .before .before .before .before .before .before .before .before .before .before .before .before .before .before .node-end .ensures) (c .before .before .before .before .before .before .before .before .before .before .before .before .shape-at2 .ensures) (c .before .before .before .before .before .before .before .c-family-node .ensures) (c .before .before .before .before .before .act3 .given .1)) (c .before .before .before .test .ensures) (c .before .said2 .given .1) (c .before .before .before .before .before .before .before .before .before .before .before .before .before .before .before .before .shape-at .ensures _ (c .before .before .before .before .before .before .before .before .before .before .before .before .before .before .before .before .before .before .loop .inv .walk .stands), c .before .before .before .before .before .before .before .before .before .before .before .before .before .before .before .exact-word .ensures _ (c .before .before .before .before .before .before .before .before .before .before .before .before .before .before .before .before .before .before .loop .inv .walk .stands))
 
 c-family-level-plain-requires-2 : (t : ℕ) → c-family-level-lts.Need-plain-requires-2 (c-family-level-calls t) (c-family-level-at t) c-family-level.Post c-family-level-Inv-loop c-family-level-μ-loop
 c-family-level-plain-requires-2 t c κs = search needs
 
-c-family-level-returns-5 : (t : ℕ) → c-family-level-lts.Need-returns-5 (c-family-level-calls t) (c-family-level-at t) c-family-level.Post c-family-level-Inv-loop c-family-level-μ-loop
+c-family-level-returns-6 : (t : ℕ) → c-family-level-lts.Need-returns-6 (c-family-level-calls t) (c-family-level-at t) c-family-level.Post c-family-level-Inv-loop c-family-level-μ-loop
 unfolding type-end
-c-family-level-returns-5 t c = run-end (c .before .before .loop .inv) (omega arith) (c .plain2 .ensures)
+c-family-level-returns-6 t c = run-end (c .before .before .loop .inv) (omega arith) (c .plain2 .ensures)
 
 abbrev either-calls : ℕ → either-lts.Claims
 either-calls t = (validate-c-family-type-below t, validate-c-family-type.Post, validate-expression-below t, validate-expression.Post)
@@ -1145,6 +1148,7 @@ pub +arguments+c-family-level+either+parameter+test+validate-abstract-declarator
     (c-family-level-exact-word-requires t)
     (c-family-level-node-end-requires t)
     (c-family-level-takes-word-requires t)
+    (c-family-level-returns-2 t)
     (c-family-level-loop-less t)
     (c-family-level-loop-again t)
     (c-family-level-shape-at-requires-2 t)
@@ -1155,25 +1159,25 @@ pub +arguments+c-family-level+either+parameter+test+validate-abstract-declarator
     (c-family-level-add-arguments t)
     (c-family-level-arguments-requires t)
     (c-family-level-enum-known-said t)
-    (c-family-level-returns-2 t)
+    (c-family-level-returns-3 t)
     (c-family-level-loop-less-3 t)
     (c-family-level-loop-again-3 t)
     (c-family-level-c-family-node-requires t)
     (c-family-level-enum-known-act t)
     (c-family-level-plain-requires t)
-    (c-family-level-returns-3 t)
+    (c-family-level-returns-4 t)
     (c-family-level-enum-known-act-2 t)
     (c-family-level-enum-known-act-3 t)
     (c-family-level-add-test t)
     (c-family-level-test-requires t)
     (c-family-level-enum-known-said-2 t)
-    (c-family-level-returns-4 t)
+    (c-family-level-returns-5 t)
     (c-family-level-loop-less-4 t)
     (c-family-level-loop-again-4 t)
     (c-family-level-loop-less-5 t)
     (c-family-level-loop-again-5 t)
     (c-family-level-plain-requires-2 t)
-    (c-family-level-returns-5 t))
+    (c-family-level-returns-6 t))
     (λ t. either-lts.spec (either-calls t)
     (either-at t)
     either.Post
