@@ -32,7 +32,6 @@ use type_nodes::shapes::NO_NODE;
 use type_nodes::specifiers::validate_c_decl_specifiers;
 use type_nodes::split_on_commas::element_end;
 use type_nodes::split_on_commas::elements_are_full;
-ghost use Prim.Native.Nat.{_<_};
 ghost use Rattle.type_nodes.specs.Moves.{type-or-expression, arguments};
 ghost use Rattle.type_nodes.specs.Stands.{WordedNodes};
 ghost use Rattle.structure.specs.Said.{a-type, a-declarator, an-expression};
@@ -58,22 +57,6 @@ pub fn validate_c_family_type(
     if is_type_word(tree, kinds, words, from, to) {
         return Verdict::Holds(allowed - 1);
     }
-    c_family_level(language, tree, kinds, words, from, to, allowed)
-}
-
-// The same where a step is left. The three nodes that most types are made of are taken in the loop, without a move.
-fn c_family_level(
-    language: u8,
-    tree: &[u32],
-    kinds: &[u8],
-    words: &[u8],
-    from: usize,
-    to: usize,
-    allowed: usize,
-) -> Verdict
-    requires { ⌜ (0 < allowed) × WordedNodes (now tree) (now kinds) (now words) from to ⌝ }
-    ensures { λ r. ⌜ VerdictSays (now (tree .entry)) (now (kinds .entry)) from to allowed (checked language (now (kinds .entry)) (now (words .entry)) a-type) r ⌝ }
-{
     let mut left = allowed - 1;
     if !validate_c_decl_specifiers(language, tree, kinds, words, from, to) {
         return Verdict::Fails(left);
@@ -90,6 +73,7 @@ fn c_family_level(
         let shape = shape_at(tree, kinds, at, to);
         let word = exact_word(tree, kinds, words, at, to);
         let end = node_end(tree, kinds, at, to);
+        // The three nodes that most types are made of are taken without a move.
         if shape == IDENTIFIER {
             if !takes_word(word, st.declarator_started) {
                 return Verdict::Fails(left);

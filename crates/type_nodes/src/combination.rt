@@ -71,14 +71,14 @@ const SCALAR_BASES: [u8; 14] = [
     DECIMAL128,
 ];
 
-fn times(seen: &[usize; COUNTED_WORDS], word: u8) -> usize
+fn times(seen: &[u32; COUNTED_WORDS], word: u8) -> u32
     requires { ⌜ word < counted-words ⌝ }
     ensures { λ r. ⌜ r ≡ times word (now (seen .entry)) ⌝ }
 {
     seen[word as usize]
 }
 
-pub fn has(seen: &[usize; COUNTED_WORDS], word: u8) -> bool
+pub fn has(seen: &[u32; COUNTED_WORDS], word: u8) -> bool
     requires { ⌜ word < counted-words ⌝ }
     ensures { λ r. ⌜ r ≡ has word (now (seen .entry)) ⌝ }
 {
@@ -86,7 +86,7 @@ pub fn has(seen: &[usize; COUNTED_WORDS], word: u8) -> bool
 }
 
 // How many of these words were seen.
-fn how_many(seen: &[usize; COUNTED_WORDS], words: &[u8]) -> usize
+fn how_many(seen: &[u32; COUNTED_WORDS], words: &[u8]) -> usize
     requires { ⌜ HaveCounts (now words) ⌝ }
     ensures { λ r. ⌜ r ≡ how-many (now (words .entry)) (now (seen .entry)) ⌝ }
 {
@@ -104,7 +104,7 @@ fn how_many(seen: &[usize; COUNTED_WORDS], words: &[u8]) -> usize
 }
 
 // How often a word may stand.
-fn most(word: u8) -> usize
+fn most(word: u8) -> u32
     ensures { λ r. ⌜ r ≡ (if eqb word long then 2 else 1) ⌝ }
 {
     if word == LONG {
@@ -113,7 +113,7 @@ fn most(word: u8) -> usize
     1
 }
 
-fn too_often(seen: &[usize; COUNTED_WORDS], words: &[u8]) -> bool
+fn too_often(seen: &[u32; COUNTED_WORDS], words: &[u8]) -> bool
     requires { ⌜ HaveCounts (now words) ⌝ }
     ensures { λ r. ⌜ r ≡ too-often (now (words .entry)) (now (seen .entry)) ⌝ }
 {
@@ -128,21 +128,22 @@ fn too_often(seen: &[usize; COUNTED_WORDS], words: &[u8]) -> bool
 }
 
 // `builtin_words.len()`
-pub fn builtin_words(seen: &[usize; COUNTED_WORDS]) -> usize
+fn builtin_words(seen: &[u32; COUNTED_WORDS]) -> usize
     ensures { λ r. ⌜ r ≡ builtin-words (now (seen .entry)) ⌝ }
 {
     let words = BUILTIN_TYPE_WORDS;
     how_many(seen, &words)
 }
 
-pub fn validate_c_bit_int_sign(seen: &[usize; COUNTED_WORDS]) -> bool
+pub fn validate_c_bit_int_sign(seen: &[u32; COUNTED_WORDS]) -> bool
     ensures { λ r. ⌜ r ≡ validate-c-bit-int-sign (now (seen .entry)) ⌝ }
 {
     let words = builtin_words(seen);
     (words == 0) | ((words == 1) & ((times(seen, SIGNED) == 1) | (times(seen, UNSIGNED) == 1)))
 }
 
-pub fn validate_c_builtin_combination(seen: &[usize; COUNTED_WORDS]) -> bool
+// `words` serves twice: made twice, it would stand twice in the frame of the checks that call one another.
+pub fn validate_c_builtin_combination(seen: &[u32; COUNTED_WORDS]) -> bool
     ensures { λ r. ⌜ r ≡ validate-c-builtin-combination (now (seen .entry)) ⌝ }
 {
     let words = BUILTIN_TYPE_WORDS;
@@ -155,7 +156,7 @@ pub fn validate_c_builtin_combination(seen: &[usize; COUNTED_WORDS]) -> bool
         & !(signed & unsigned)
         & !(short & long)
         & (how_many(seen, &bases) <= 1)
-        & !(has(seen, VOID) & !(builtin_words(seen) == 1))
+        & !(has(seen, VOID) & !(how_many(seen, &words) == 1))
         & !(has(seen, FLOAT) & (short | long | signed | unsigned))
         & !(has(seen, DOUBLE) & (short | signed | unsigned | (1 < times(seen, LONG))))
         & !(has(seen, CHAR) & (short | long))

@@ -64,7 +64,7 @@ pub enum SpecifierMove {
 }
 
 // Whether the builtin type words may stand before such a word and its parentheses.
-fn builtin_words_are_valid(word: u8, seen: &[usize; COUNTED_WORDS], none: bool) -> bool
+fn builtin_words_are_valid(word: u8, seen: &[u32; COUNTED_WORDS], none: bool) -> bool
     requires { ⌜ none ≡ no-builtin-word (now seen) ⌝ }
     ensures { λ r. ⌜ r ≡ (if eqb word «_BitInt» then validate-c-bit-int-sign (now (seen .entry)) else no-builtin-word (now (seen .entry))) ⌝ }
 {
@@ -95,7 +95,7 @@ fn count_if(ok: bool, word: u8, flags: SpecifierFlags) -> SpecifierMove
 
 // One builtin type word alone goes together with any qualifiers.
 fn specifiers_end(
-    seen: &[usize; COUNTED_WORDS],
+    seen: &[u32; COUNTED_WORDS],
     none: bool,
     single: bool,
     flags: SpecifierFlags,
@@ -121,7 +121,7 @@ fn specifiers_end(
 // A word that makes a specifier with the parentheses after it.
 fn parenthesis_word(
     word: u8,
-    seen: &[usize; COUNTED_WORDS],
+    seen: &[u32; COUNTED_WORDS],
     none: bool,
     flags: SpecifierFlags,
 ) -> SpecifierMove
@@ -140,7 +140,7 @@ fn parenthesis_word(
     )
 }
 
-fn qualifier_word(word: u8, seen: &[usize; COUNTED_WORDS], flags: SpecifierFlags) -> SpecifierMove
+fn qualifier_word(word: u8, seen: &[u32; COUNTED_WORDS], flags: SpecifierFlags) -> SpecifierMove
     requires { ⌜ word < counted-words ⌝ }
     ensures { λ r. ⌜ SpecifierMoves (now (seen .entry)) r (qualifier-word word (specifiers-of (now (seen .entry)) flags)) ⌝ }
 {
@@ -247,7 +247,7 @@ fn specifier_word(
     language: u8,
     word: u8,
     right: u8,
-    seen: &[usize; COUNTED_WORDS],
+    seen: &[u32; COUNTED_WORDS],
     none: bool,
     flags: SpecifierFlags,
 ) -> SpecifierMove
@@ -296,7 +296,7 @@ fn specifier_node(
     word: u8,
     right: u8,
     second: u8,
-    seen: &[usize; COUNTED_WORDS],
+    seen: &[u32; COUNTED_WORDS],
     none: bool,
     flags: SpecifierFlags,
 ) -> SpecifierMove
@@ -343,7 +343,7 @@ pub fn validate_c_decl_specifiers(
     requires { ⌜ WordedNodes (now tree) (now kinds) (now words) from to ⌝ }
     ensures { λ r. ⌜ Of (now (tree .entry)) (now (kinds .entry)) from to (λ x. r ≡ validate-c-decl-specifiers language (now (kinds .entry)) (now (words .entry)) x) ⌝ }
 {
-    let mut seen: [usize; COUNTED_WORDS] = [0; COUNTED_WORDS];
+    let mut seen: [u32; COUNTED_WORDS] = [0; COUNTED_WORDS];
     let mut none = true;
     let mut single = false;
     let mut flags = NO_FLAGS;

@@ -26,34 +26,31 @@ use borrow.Fn.Kinds.{In}
 use borrow.Fn.PlainCycle.{Measures, is, falls, and}
 use Rattle.structure.proofs.checks.arguments.Reads as arguments
 use Rattle.structure.proofs.checks.arguments.Kinds as arguments-kinds
-use Rattle.structure.proofs.checks.+arguments+c_family_level+either+parameter+test+validate_abstract_declarator+validate_c_family_type+validate_cpp_template_argument+validate_expression+validate_parameter_type_list.Lts-arguments as arguments-lts
-use Rattle.structure.proofs.checks.c_family_level.Reads as c-family-level
-use Rattle.structure.proofs.checks.c_family_level.Kinds as c-family-level-kinds
-use Rattle.structure.proofs.checks.+arguments+c_family_level+either+parameter+test+validate_abstract_declarator+validate_c_family_type+validate_cpp_template_argument+validate_expression+validate_parameter_type_list.Lts-c_family_level as c-family-level-lts
+use Rattle.structure.proofs.checks.+arguments+either+parameter+test+validate_abstract_declarator+validate_c_family_type+validate_cpp_template_argument+validate_expression+validate_parameter_type_list.Lts-arguments as arguments-lts
 use Rattle.structure.proofs.checks.either.Reads as either
 use Rattle.structure.proofs.checks.either.Kinds as either-kinds
-use Rattle.structure.proofs.checks.+arguments+c_family_level+either+parameter+test+validate_abstract_declarator+validate_c_family_type+validate_cpp_template_argument+validate_expression+validate_parameter_type_list.Lts-either as either-lts
+use Rattle.structure.proofs.checks.+arguments+either+parameter+test+validate_abstract_declarator+validate_c_family_type+validate_cpp_template_argument+validate_expression+validate_parameter_type_list.Lts-either as either-lts
 use Rattle.structure.proofs.checks.parameter.Reads as parameter
 use Rattle.structure.proofs.checks.parameter.Kinds as parameter-kinds
-use Rattle.structure.proofs.checks.+arguments+c_family_level+either+parameter+test+validate_abstract_declarator+validate_c_family_type+validate_cpp_template_argument+validate_expression+validate_parameter_type_list.Lts-parameter as parameter-lts
+use Rattle.structure.proofs.checks.+arguments+either+parameter+test+validate_abstract_declarator+validate_c_family_type+validate_cpp_template_argument+validate_expression+validate_parameter_type_list.Lts-parameter as parameter-lts
 use Rattle.structure.proofs.checks.test.Reads as test
 use Rattle.structure.proofs.checks.test.Kinds as test-kinds
-use Rattle.structure.proofs.checks.+arguments+c_family_level+either+parameter+test+validate_abstract_declarator+validate_c_family_type+validate_cpp_template_argument+validate_expression+validate_parameter_type_list.Lts-test as test-lts
+use Rattle.structure.proofs.checks.+arguments+either+parameter+test+validate_abstract_declarator+validate_c_family_type+validate_cpp_template_argument+validate_expression+validate_parameter_type_list.Lts-test as test-lts
 use Rattle.structure.proofs.checks.validate_abstract_declarator.Reads as validate-abstract-declarator
 use Rattle.structure.proofs.checks.validate_abstract_declarator.Kinds as validate-abstract-declarator-kinds
-use Rattle.structure.proofs.checks.+arguments+c_family_level+either+parameter+test+validate_abstract_declarator+validate_c_family_type+validate_cpp_template_argument+validate_expression+validate_parameter_type_list.Lts-validate_abstract_declarator as validate-abstract-declarator-lts
+use Rattle.structure.proofs.checks.+arguments+either+parameter+test+validate_abstract_declarator+validate_c_family_type+validate_cpp_template_argument+validate_expression+validate_parameter_type_list.Lts-validate_abstract_declarator as validate-abstract-declarator-lts
 use Rattle.structure.proofs.checks.validate_c_family_type.Reads as validate-c-family-type
 use Rattle.structure.proofs.checks.validate_c_family_type.Kinds as validate-c-family-type-kinds
-use Rattle.structure.proofs.checks.+arguments+c_family_level+either+parameter+test+validate_abstract_declarator+validate_c_family_type+validate_cpp_template_argument+validate_expression+validate_parameter_type_list.Lts-validate_c_family_type as validate-c-family-type-lts
+use Rattle.structure.proofs.checks.+arguments+either+parameter+test+validate_abstract_declarator+validate_c_family_type+validate_cpp_template_argument+validate_expression+validate_parameter_type_list.Lts-validate_c_family_type as validate-c-family-type-lts
 use Rattle.structure.proofs.checks.validate_cpp_template_argument.Reads as validate-cpp-template-argument
 use Rattle.structure.proofs.checks.validate_cpp_template_argument.Kinds as validate-cpp-template-argument-kinds
-use Rattle.structure.proofs.checks.+arguments+c_family_level+either+parameter+test+validate_abstract_declarator+validate_c_family_type+validate_cpp_template_argument+validate_expression+validate_parameter_type_list.Lts-validate_cpp_template_argument as validate-cpp-template-argument-lts
+use Rattle.structure.proofs.checks.+arguments+either+parameter+test+validate_abstract_declarator+validate_c_family_type+validate_cpp_template_argument+validate_expression+validate_parameter_type_list.Lts-validate_cpp_template_argument as validate-cpp-template-argument-lts
 use Rattle.structure.proofs.checks.validate_expression.Reads as validate-expression
 use Rattle.structure.proofs.checks.validate_expression.Kinds as validate-expression-kinds
-use Rattle.structure.proofs.checks.+arguments+c_family_level+either+parameter+test+validate_abstract_declarator+validate_c_family_type+validate_cpp_template_argument+validate_expression+validate_parameter_type_list.Lts-validate_expression as validate-expression-lts
+use Rattle.structure.proofs.checks.+arguments+either+parameter+test+validate_abstract_declarator+validate_c_family_type+validate_cpp_template_argument+validate_expression+validate_parameter_type_list.Lts-validate_expression as validate-expression-lts
 use Rattle.structure.proofs.checks.validate_parameter_type_list.Reads as validate-parameter-type-list
 use Rattle.structure.proofs.checks.validate_parameter_type_list.Kinds as validate-parameter-type-list-kinds
-use Rattle.structure.proofs.checks.+arguments+c_family_level+either+parameter+test+validate_abstract_declarator+validate_c_family_type+validate_cpp_template_argument+validate_expression+validate_parameter_type_list.Lts-validate_parameter_type_list as validate-parameter-type-list-lts
+use Rattle.structure.proofs.checks.+arguments+either+parameter+test+validate_abstract_declarator+validate_c_family_type+validate_cpp_template_argument+validate_expression+validate_parameter_type_list.Lts-validate_parameter_type_list as validate-parameter-type-list-lts
 use Rattle.structure.proofs.declarators.abstract_declarator_node.Reads as abstract-declarator-node-reads
 use Rattle.structure.proofs.declarators.c_family_node.Reads as c-family-node-reads
 use Rattle.structure.proofs.declarators.is_type_word.Reads as is-type-word-reads
@@ -72,42 +69,39 @@ use Rattle.type_nodes.proofs.nodes.shape_at.Reads as shape-at-reads
 use Rattle.type_nodes.proofs.specifiers.validate_c_decl_specifiers.Reads as validate-c-decl-specifiers-reads
 use Rattle.type_nodes.proofs.split_on_commas.element_end.Reads as element-end-reads
 use Rattle.type_nodes.proofs.split_on_commas.elements_are_full.Reads as elements-are-full-reads
-use Rattle.structure.proofs.checks.+arguments+c_family_level+either+parameter+test+validate_abstract_declarator+validate_c_family_type+validate_cpp_template_argument+validate_expression+validate_parameter_type_list.{
+use Rattle.structure.proofs.checks.+arguments+either+parameter+test+validate_abstract_declarator+validate_c_family_type+validate_cpp_template_argument+validate_expression+validate_parameter_type_list.{
   statement,
 }
-use Rattle.structure.proofs.checks.+arguments+c_family_level+either+parameter+test+validate_abstract_declarator+validate_c_family_type+validate_cpp_template_argument+validate_expression+validate_parameter_type_list.Tie.{
+use Rattle.structure.proofs.checks.+arguments+either+parameter+test+validate_abstract_declarator+validate_c_family_type+validate_cpp_template_argument+validate_expression+validate_parameter_type_list.Tie.{
   close,
 }
 
 abbrev μ-arguments : Measures 3 arguments-kinds.ps ℕ
-μ-arguments κs a = 8 * (a .1 .1 .1 .1 .1 .0 - a .1 .1 .1 .1 .0) + 4
-
-abbrev μ-c-family-level : Measures 3 c-family-level-kinds.ps ℕ
-μ-c-family-level κs a = 8 * (a .1 .1 .1 .1 .1 .0 - a .1 .1 .1 .1 .0)
+μ-arguments κs a = 8 * (a .1 .1 .1 .1 .1 .0 - a .1 .1 .1 .1 .0) + 3
 
 abbrev μ-either : Measures 3 either-kinds.ps ℕ
-μ-either κs a = 8 * (a .1 .1 .1 .1 .1 .0 - a .1 .1 .1 .1 .0) + 2
+μ-either κs a = 8 * (a .1 .1 .1 .1 .1 .0 - a .1 .1 .1 .1 .0) + 1
 
 abbrev μ-parameter : Measures 3 parameter-kinds.ps ℕ
-μ-parameter κs a = 8 * (a .1 .1 .1 .1 .1 .0 - a .1 .1 .1 .1 .0) + 2
+μ-parameter κs a = 8 * (a .1 .1 .1 .1 .1 .0 - a .1 .1 .1 .1 .0) + 1
 
 abbrev μ-test : Measures 3 test-kinds.ps ℕ
-μ-test κs a = 8 * (a .1 .1 .1 .1 .1 .1 .0 - a .1 .1 .1 .1 .1 .0) + 6
+μ-test κs a = 8 * (a .1 .1 .1 .1 .1 .1 .0 - a .1 .1 .1 .1 .1 .0) + 5
 
 abbrev μ-validate-abstract-declarator : Measures 3 validate-abstract-declarator-kinds.ps ℕ
 μ-validate-abstract-declarator κs a = 8 * (a .1 .1 .1 .1 .1 .0 - a .1 .1 .1 .1 .0)
 
 abbrev μ-validate-c-family-type : Measures 3 validate-c-family-type-kinds.ps ℕ
-μ-validate-c-family-type κs a = 8 * (a .1 .1 .1 .1 .1 .0 - a .1 .1 .1 .1 .0) + 1
+μ-validate-c-family-type κs a = 8 * (a .1 .1 .1 .1 .1 .0 - a .1 .1 .1 .1 .0)
 
 abbrev μ-validate-cpp-template-argument : Measures 3 validate-cpp-template-argument-kinds.ps ℕ
-μ-validate-cpp-template-argument κs a = 8 * (a .1 .1 .1 .1 .1 .0 - a .1 .1 .1 .1 .0) + 3
+μ-validate-cpp-template-argument κs a = 8 * (a .1 .1 .1 .1 .1 .0 - a .1 .1 .1 .1 .0) + 2
 
 abbrev μ-validate-expression : Measures 3 validate-expression-kinds.ps ℕ
 μ-validate-expression κs a = 8 * (a .1 .1 .1 .1 .1 .0 - a .1 .1 .1 .1 .0)
 
 abbrev μ-validate-parameter-type-list : Measures 3 validate-parameter-type-list-kinds.ps ℕ
-μ-validate-parameter-type-list κs a = 8 * (a .1 .1 .1 .1 .1 .0 - a .1 .1 .1 .1 .0) + 4
+μ-validate-parameter-type-list κs a = 8 * (a .1 .1 .1 .1 .1 .0 - a .1 .1 .1 .1 .0) + 3
 
 abbrev arguments-at : ℕ → In 3 arguments-kinds.ps
 arguments-at t = and 3 arguments-kinds.ps (is 3 arguments-kinds.ps μ-arguments t) arguments.Pre
@@ -115,22 +109,6 @@ arguments-at t = and 3 arguments-kinds.ps (is 3 arguments-kinds.ps μ-arguments 
 abbrev arguments-below : ℕ → In 3 arguments-kinds.ps
 arguments-below t =
     and 3 arguments-kinds.ps (falls 3 arguments-kinds.ps _<_ μ-arguments t) arguments.Pre
-
-abbrev c-family-level-at : ℕ → In 3 c-family-level-kinds.ps
-c-family-level-at t =
-    and
-    3
-    c-family-level-kinds.ps
-    (is 3 c-family-level-kinds.ps μ-c-family-level t)
-    c-family-level.Pre
-
-abbrev c-family-level-below : ℕ → In 3 c-family-level-kinds.ps
-c-family-level-below t =
-    and
-    3
-    c-family-level-kinds.ps
-    (falls 3 c-family-level-kinds.ps _<_ μ-c-family-level t)
-    c-family-level.Pre
 
 abbrev either-at : ℕ → In 3 either-kinds.ps
 either-at t = and 3 either-kinds.ps (is 3 either-kinds.ps μ-either t) either.Pre
@@ -269,131 +247,6 @@ arguments-loop-again t c = walk-holds (c .before .before .before .before .before
 
 arguments-returns-2 : (t : ℕ) → arguments-lts.Need-returns-2 (arguments-calls t) (arguments-at t) arguments.Post arguments-Inv-loop arguments-μ-loop
 arguments-returns-2 t c = arguments-end _ (c .before .loop .inv) (omega arith)
-
-abbrev c-family-level-Inv-loop : c-family-level-lts.InvT-loop
-c-family-level-Inv-loop language tree kinds words from to allowed left₀ before₀ word-before₀ st₀ at₀ left before word-before st at = InType language tree kinds words from to allowed left st before word-before at
-
-abbrev c-family-level-μ-loop : c-family-level-lts.MeasureT-loop
-c-family-level-μ-loop language tree kinds words from to allowed left₀ before₀ word-before₀ st₀ at₀ left before word-before st at = to - at
-
-abbrev c-family-level-calls : ℕ → c-family-level-lts.Claims
-c-family-level-calls t = (validate-c-decl-specifiers-reads.Asked, validate-c-decl-specifiers-reads.Learnt, shape-at-reads.Asked, shape-at-reads.Learnt, exact-word-reads.Asked, exact-word-reads.Learnt, node-end-reads.Asked, node-end-reads.Learnt, takes-word-reads.Asked, takes-word-reads.Learnt, takes-scope-reads.Asked, takes-scope-reads.Learnt, takes-list-reads.Asked, takes-list-reads.Learnt, arguments-below t, arguments.Post, c-family-node-reads.Asked, c-family-node-reads.Learnt, plain-reads.Asked, plain-reads.Learnt, test-below t, test.Post)
-
-c-family-level-sub-left : (t : ℕ) → c-family-level-lts.Need-sub-left (c-family-level-calls t) (c-family-level-at t) c-family-level.Post c-family-level-Inv-loop c-family-level-μ-loop
-c-family-level-sub-left t c = omega (arith, c .before .before .before .pre .1 .0)
-
-c-family-level-validate-c-decl-specifiers-requires :
-    (t : ℕ) → c-family-level-lts.Need-validate-c-decl-specifiers-requires (c-family-level-calls t) (c-family-level-at t) c-family-level.Post c-family-level-Inv-loop c-family-level-μ-loop
-c-family-level-validate-c-decl-specifiers-requires t c κs = c .before .before .before .pre .1 .1
-
-c-family-level-returns : (t : ℕ) → c-family-level-lts.Need-returns (c-family-level-calls t) (c-family-level-at t) c-family-level.Post c-family-level-Inv-loop c-family-level-μ-loop
-c-family-level-returns t c = head-fails _ _ (type-entry _ _ _) (omega (arith, c .before .before .before .before .before .pre .1 .0)) (c .before .validate-c-decl-specifiers .ensures) (not-true _ (c .if1 .taken))
-
-c-family-level-loop-holds : (t : ℕ) → c-family-level-lts.Need-loop-holds (c-family-level-calls t) (c-family-level-at t) c-family-level.Post c-family-level-Inv-loop c-family-level-μ-loop
-c-family-level-loop-holds t c = run-start (refl, no-word-before) (c .before .before .before .before .before .pre .1 .1 .nodes-stand) (head-holds _ _ (type-entry _ _ _) (omega (arith, c .before .before .before .before .before .pre .1 .0)) (c .before .validate-c-decl-specifiers .ensures) (not-false _ (c .if1 .left)))
-
-c-family-level-shape-at-requires : (t : ℕ) → c-family-level-lts.Need-shape-at-requires (c-family-level-calls t) (c-family-level-at t) c-family-level.Post c-family-level-Inv-loop c-family-level-μ-loop
-c-family-level-shape-at-requires t c κs = walk-formed (c .before .loop .inv .walk)
-
-c-family-level-exact-word-requires : (t : ℕ) → c-family-level-lts.Need-exact-word-requires (c-family-level-calls t) (c-family-level-at t) c-family-level.Post c-family-level-Inv-loop c-family-level-μ-loop
-c-family-level-exact-word-requires t c κs = record { nodes-stand = walk-formed (c .before .before .loop .inv .walk); worded = c .before .before .before .before .before .before .before .before .pre .1 .1 .worded }
-
-c-family-level-node-end-requires : (t : ℕ) → c-family-level-lts.Need-node-end-requires (c-family-level-calls t) (c-family-level-at t) c-family-level.Post c-family-level-Inv-loop c-family-level-μ-loop
-c-family-level-node-end-requires t c κs = (c .before .before .loop-test .taken, walk-formed (c .before .before .before .loop .inv .walk))
-
-c-family-level-takes-word-requires : (t : ℕ) → c-family-level-lts.Need-takes-word-requires (c-family-level-calls t) (c-family-level-at t) c-family-level.Post c-family-level-Inv-loop c-family-level-μ-loop
-c-family-level-takes-word-requires t c κs = search needs
-
-c-family-level-returns-2 : (t : ℕ) → c-family-level-lts.Need-returns-2 (c-family-level-calls t) (c-family-level-at t) c-family-level.Post c-family-level-Inv-loop c-family-level-μ-loop
-c-family-level-returns-2 t c = run-stop (c .before .before .before .before .before .before .before .loop .inv) (c .before .before .before .before .before .before .loop-test .taken) (at-wrong-word (c .before .before .before .before .before .before .before .loop .inv) (c .before .before .before .before .before .shape-at .ensures) (c .before .before .before .before .exact-word .ensures) (c .before .before .if2 .taken) (c .before .takes-word .ensures) (not-true _ (c .if3 .taken))) (sym (limited-no _))
-
-c-family-level-loop-less : (t : ℕ) → c-family-level-lts.Need-loop-less (c-family-level-calls t) (c-family-level-at t) c-family-level.Post c-family-level-Inv-loop c-family-level-μ-loop
-c-family-level-loop-less t c = omega (arith, walk-further (c .before .before .before .before .before .before .before .loop .inv .walk) (c .before .before .before .before .before .before .loop-test .taken) (c .before .before .before .node-end .ensures), walk-fits (c .before .before .before .before .before .before .before .loop .inv .walk) (c .before .before .before .before .before .before .loop-test .taken) (c .before .before .before .node-end .ensures))
-
-c-family-level-loop-again : (t : ℕ) → c-family-level-lts.Need-loop-again (c-family-level-calls t) (c-family-level-at t) c-family-level.Post c-family-level-Inv-loop c-family-level-μ-loop
-c-family-level-loop-again t c = run-on (c .before .before .before .before .before .before .before .loop .inv) (c .before .before .before .before .before .before .loop-test .taken) (c .before .before .before .node-end .ensures) (at-word (c .before .before .before .before .before .before .before .loop .inv) (c .before .before .before .before .before .shape-at .ensures) (c .before .before .before .before .exact-word .ensures) (c .before .before .if2 .taken) (c .before .takes-word .ensures) (not-false _ (c .if3 .left))) (c .before .before .before .before .before .shape-at .ensures _ (c .before .before .before .before .before .before .before .loop .inv .walk .stands), c .before .before .before .before .exact-word .ensures _ (c .before .before .before .before .before .before .before .loop .inv .walk .stands))
-
-c-family-level-shape-at-requires-2 : (t : ℕ) → c-family-level-lts.Need-shape-at-requires-2 (c-family-level-calls t) (c-family-level-at t) c-family-level.Post c-family-level-Inv-loop c-family-level-μ-loop
-c-family-level-shape-at-requires-2 t c κs = walk-after (c .before .before .before .before .before .loop .inv .walk) (c .before .before .before .before .loop-test .taken) (c .before .node-end .ensures)
-
-c-family-level-takes-scope-requires : (t : ℕ) → c-family-level-lts.Need-takes-scope-requires (c-family-level-calls t) (c-family-level-at t) c-family-level.Post c-family-level-Inv-loop c-family-level-μ-loop
-c-family-level-takes-scope-requires t c κs = search needs
-
-c-family-level-loop-less-2 : (t : ℕ) → c-family-level-lts.Need-loop-less-2 (c-family-level-calls t) (c-family-level-at t) c-family-level.Post c-family-level-Inv-loop c-family-level-μ-loop
-c-family-level-loop-less-2 t c = omega (arith, walk-further (c .before .before .before .before .before .before .before .before .loop .inv .walk) (c .before .before .before .before .before .before .before .loop-test .taken) (c .before .before .before .before .node-end .ensures), walk-fits (c .before .before .before .before .before .before .before .before .loop .inv .walk) (c .before .before .before .before .before .before .before .loop-test .taken) (c .before .before .before .before .node-end .ensures))
-
-c-family-level-loop-again-2 : (t : ℕ) → c-family-level-lts.Need-loop-again-2 (c-family-level-calls t) (c-family-level-at t) c-family-level.Post c-family-level-Inv-loop c-family-level-μ-loop
-c-family-level-loop-again-2 t c = run-on (c .before .before .before .before .before .before .before .before .loop .inv) (c .before .before .before .before .before .before .before .loop-test .taken) (c .before .before .before .before .node-end .ensures) (at-scope (c .before .before .before .before .before .before .before .before .loop .inv) (c .before .before .before .before .before .before .shape-at .ensures) (c .before .before .before .before .before .before .before .loop-test .taken) (c .before .before .before .before .node-end .ensures) (c .before .before .shape-at2 .ensures) (c .before .takes-scope .ensures) (c .if4 .taken)) (c .before .before .before .before .before .before .shape-at .ensures _ (c .before .before .before .before .before .before .before .before .loop .inv .walk .stands), c .before .before .before .before .before .exact-word .ensures _ (c .before .before .before .before .before .before .before .before .loop .inv .walk .stands))
-
-c-family-level-takes-list-requires : (t : ℕ) → c-family-level-lts.Need-takes-list-requires (c-family-level-calls t) (c-family-level-at t) c-family-level.Post c-family-level-Inv-loop c-family-level-μ-loop
-c-family-level-takes-list-requires t c κs = search needs
-
-c-family-level-add-arguments : (t : ℕ) → c-family-level-lts.Need-add-arguments (c-family-level-calls t) (c-family-level-at t) c-family-level.Post c-family-level-Inv-loop c-family-level-μ-loop
-c-family-level-add-arguments t c = omega (arith, c .before .before .before .before .before .before .before .before .before .before .loop .inv .walk .few)
-
-c-family-level-arguments-requires : (t : ℕ) → c-family-level-lts.Need-arguments-requires (c-family-level-calls t) (c-family-level-at t) c-family-level.Post c-family-level-Inv-loop c-family-level-μ-loop
-c-family-level-arguments-requires t c κs = (omega (arith, walk-further (c .before .before .before .before .before .before .before .before .before .before .loop .inv .walk) (c .before .before .before .before .before .before .before .before .before .loop-test .taken) (c .before .before .before .before .before .before .node-end .ensures), walk-fits (c .before .before .before .before .before .before .before .before .before .before .loop .inv .walk) (c .before .before .before .before .before .before .before .before .before .loop-test .taken) (c .before .before .before .before .before .before .node-end .ensures), c .before .before .before .before .before .before .before .before .before .before .loop .inv .walk .past, c .before .before .before .before .before .before .before .before .before .before .before .before .before .before .before .before .pre .0), walk-below (c .before .before .before .before .before .before .before .before .before .before .loop .inv .walk) (c .before .before .before .before .before .before .before .before .before .loop-test .taken) (c .before .before .before .before .before .before .node-end .ensures) (c .before .before .before .before .before .before .before .before .before .before .before .before .before .before .before .before .pre .1 .1 .worded))
-
-c-family-level-enum-known-said : (t : ℕ) → c-family-level-lts.Need-enum-known-said (c-family-level-calls t) (c-family-level-at t) c-family-level.Post c-family-level-Inv-loop c-family-level-μ-loop
-c-family-level-enum-known-said t c = search needs
-
-c-family-level-returns-3 : (t : ℕ) → c-family-level-lts.Need-returns-3 (c-family-level-calls t) (c-family-level-at t) c-family-level.Post c-family-level-Inv-loop c-family-level-μ-loop
-c-family-level-returns-3 t c = run-stops (c .before .before .before .before .before .before .before .before .before .before .before .before .loop .inv) (c .before .before .before .before .before .before .before .before .before .before .before .loop-test .taken) (c .before .before .before .before .before .before .before .before .node-end .ensures) (at-list (c .before .before .before .before .before .before .before .before .before .before .before .before .loop .inv) (c .before .before .before .before .before .before .before .before .before .before .shape-at .ensures) (c .before .before .before .takes-list .ensures) (c .before .before .if5 .taken)) (c .before .arguments .ensures) (not-holds (tagOf the-type) (λ l. refl) _ (c .match .keys2))
-
-c-family-level-loop-less-3 : (t : ℕ) → c-family-level-lts.Need-loop-less-3 (c-family-level-calls t) (c-family-level-at t) c-family-level.Post c-family-level-Inv-loop c-family-level-μ-loop
-c-family-level-loop-less-3 t c = omega (arith, walk-further (c .before .before .before .before .before .before .before .before .before .before .before .before .before .before .loop .inv .walk) (c .before .before .before .before .before .before .before .before .before .before .before .before .before .loop-test .taken) (c .before .before .before .before .before .before .before .before .before .before .node-end .ensures), walk-fits (c .before .before .before .before .before .before .before .before .before .before .before .before .before .before .loop .inv .walk) (c .before .before .before .before .before .before .before .before .before .before .before .before .before .loop-test .taken) (c .before .before .before .before .before .before .before .before .before .before .node-end .ensures))
-
-c-family-level-loop-again-3 : (t : ℕ) → c-family-level-lts.Need-loop-again-3 (c-family-level-calls t) (c-family-level-at t) c-family-level.Post c-family-level-Inv-loop c-family-level-μ-loop
-c-family-level-loop-again-3 t c = run-inside (c .before .before .before .before .before .before .before .before .before .before .before .before .before .before .loop .inv) (c .before .before .before .before .before .before .before .before .before .before .before .before .before .loop-test .taken) (c .before .before .before .before .before .before .before .before .before .before .node-end .ensures) (at-list (c .before .before .before .before .before .before .before .before .before .before .before .before .before .before .loop .inv) (c .before .before .before .before .before .before .before .before .before .before .before .before .shape-at .ensures) (c .before .before .before .before .before .takes-list .ensures) (c .before .before .before .before .if5 .taken)) (c .before .before .before .arguments .ensures) (c .before .said .given .1) (c .before .before .before .before .before .before .before .before .before .before .before .before .shape-at .ensures _ (c .before .before .before .before .before .before .before .before .before .before .before .before .before .before .loop .inv .walk .stands), c .before .before .before .before .before .before .before .before .before .before .before .exact-word .ensures _ (c .before .before .before .before .before .before .before .before .before .before .before .before .before .before .loop .inv .walk .stands))
-
-c-family-level-c-family-node-requires : (t : ℕ) → c-family-level-lts.Need-c-family-node-requires (c-family-level-calls t) (c-family-level-at t) c-family-level.Post c-family-level-Inv-loop c-family-level-μ-loop
-c-family-level-c-family-node-requires t c κs = search needs
-
-c-family-level-enum-known-act : (t : ℕ) → c-family-level-lts.Need-enum-known-act (c-family-level-calls t) (c-family-level-at t) c-family-level.Post c-family-level-Inv-loop c-family-level-μ-loop
-c-family-level-enum-known-act t c = search needs
-
-c-family-level-plain-requires : (t : ℕ) → c-family-level-lts.Need-plain-requires (c-family-level-calls t) (c-family-level-at t) c-family-level.Post c-family-level-Inv-loop c-family-level-μ-loop
-c-family-level-plain-requires t c κs = search needs
-
-c-family-level-returns-4 : (t : ℕ) → c-family-level-lts.Need-returns-4 (c-family-level-calls t) (c-family-level-at t) c-family-level.Post c-family-level-Inv-loop c-family-level-μ-loop
-c-family-level-returns-4 t c = run-stop (c .before .before .before .before .before .before .before .before .before .before .before .before .before .before .before .loop .inv) (c .before .before .before .before .before .before .before .before .before .before .before .before .before .before .loop-test .taken) (type-moved (c .before .before .before .before .before .before .before .before .before .before .before .before .before .before .before .loop .inv) (c .before .before .before .before .before .before .before .before .before .before .before .before .before .before .loop-test .taken) (c .before .before .before .before .before .before .before .before .before .before .before .before .before .shape-at .ensures) (c .before .before .before .before .before .before .before .before .before .before .before .before .exact-word .ensures) (c .before .before .before .before .before .before .before .before .before .before .before .node-end .ensures) (c .before .before .before .before .before .before .before .before .before .shape-at2 .ensures) (c .before .before .before .before .c-family-node .ensures) (c .before .before .act .given .1)) (c .plain .ensures)
-
-c-family-level-enum-known-act-2 : (t : ℕ) → c-family-level-lts.Need-enum-known-act-2 (c-family-level-calls t) (c-family-level-at t) c-family-level.Post c-family-level-Inv-loop c-family-level-μ-loop
-c-family-level-enum-known-act-2 t c = search needs
-
-c-family-level-enum-known-act-3 : (t : ℕ) → c-family-level-lts.Need-enum-known-act-3 (c-family-level-calls t) (c-family-level-at t) c-family-level.Post c-family-level-Inv-loop c-family-level-μ-loop
-c-family-level-enum-known-act-3 t c = search needs
-
-c-family-level-add-test : (t : ℕ) → c-family-level-lts.Need-add-test (c-family-level-calls t) (c-family-level-at t) c-family-level.Post c-family-level-Inv-loop c-family-level-μ-loop
-c-family-level-add-test t c = omega (arith, c .before .before .before .before .before .before .before .before .before .before .before .before .before .before .loop .inv .walk .few)
-
-c-family-level-test-requires : (t : ℕ) → c-family-level-lts.Need-test-requires (c-family-level-calls t) (c-family-level-at t) c-family-level.Post c-family-level-Inv-loop c-family-level-μ-loop
-c-family-level-test-requires t c κs = (omega (arith, walk-further (c .before .before .before .before .before .before .before .before .before .before .before .before .before .before .loop .inv .walk) (c .before .before .before .before .before .before .before .before .before .before .before .before .before .loop-test .taken) (c .before .before .before .before .before .before .before .before .before .before .node-end .ensures), walk-fits (c .before .before .before .before .before .before .before .before .before .before .before .before .before .before .loop .inv .walk) (c .before .before .before .before .before .before .before .before .before .before .before .before .before .loop-test .taken) (c .before .before .before .before .before .before .before .before .before .before .node-end .ensures), c .before .before .before .before .before .before .before .before .before .before .before .before .before .before .loop .inv .walk .past, c .before .before .before .before .before .before .before .before .before .before .before .before .before .before .before .before .before .before .before .before .pre .0), walk-below (c .before .before .before .before .before .before .before .before .before .before .before .before .before .before .loop .inv .walk) (c .before .before .before .before .before .before .before .before .before .before .before .before .before .loop-test .taken) (c .before .before .before .before .before .before .before .before .before .before .node-end .ensures) (c .before .before .before .before .before .before .before .before .before .before .before .before .before .before .before .before .before .before .before .before .pre .1 .1 .worded))
-
-c-family-level-enum-known-said-2 : (t : ℕ) → c-family-level-lts.Need-enum-known-said-2 (c-family-level-calls t) (c-family-level-at t) c-family-level.Post c-family-level-Inv-loop c-family-level-μ-loop
-c-family-level-enum-known-said-2 t c = search needs
-
-c-family-level-returns-5 : (t : ℕ) → c-family-level-lts.Need-returns-5 (c-family-level-calls t) (c-family-level-at t) c-family-level.Post c-family-level-Inv-loop c-family-level-μ-loop
-c-family-level-returns-5 t c = run-stops (c .before .before .before .before .before .before .before .before .before .before .before .before .before .before .before .before .loop .inv) (c .before .before .before .before .before .before .before .before .before .before .before .before .before .before .before .loop-test .taken) (c .before .before .before .before .before .before .before .before .before .before .before .before .node-end .ensures) (type-moved (c .before .before .before .before .before .before .before .before .before .before .before .before .before .before .before .before .loop .inv) (c .before .before .before .before .before .before .before .before .before .before .before .before .before .before .before .loop-test .taken) (c .before .before .before .before .before .before .before .before .before .before .before .before .before .before .shape-at .ensures) (c .before .before .before .before .before .before .before .before .before .before .before .before .before .exact-word .ensures) (c .before .before .before .before .before .before .before .before .before .before .before .before .node-end .ensures) (c .before .before .before .before .before .before .before .before .before .before .shape-at2 .ensures) (c .before .before .before .before .before .c-family-node .ensures) (c .before .before .before .act3 .given .1)) (c .before .test .ensures) (not-holds (tagOf the-type) (λ l. refl) _ (c .match3 .keys2))
-
-c-family-level-loop-less-4 : (t : ℕ) → c-family-level-lts.Need-loop-less-4 (c-family-level-calls t) (c-family-level-at t) c-family-level.Post c-family-level-Inv-loop c-family-level-μ-loop
-c-family-level-loop-less-4 t c = omega (arith, walk-further (c .before .before .before .before .before .before .before .before .before .before .before .before .before .before .loop .inv .walk) (c .before .before .before .before .before .before .before .before .before .before .before .before .before .loop-test .taken) (c .before .before .before .before .before .before .before .before .before .before .node-end .ensures), walk-fits (c .before .before .before .before .before .before .before .before .before .before .before .before .before .before .loop .inv .walk) (c .before .before .before .before .before .before .before .before .before .before .before .before .before .loop-test .taken) (c .before .before .before .before .before .before .before .before .before .before .node-end .ensures))
-
-c-family-level-loop-again-4 : (t : ℕ) → c-family-level-lts.Need-loop-again-4 (c-family-level-calls t) (c-family-level-at t) c-family-level.Post c-family-level-Inv-loop c-family-level-μ-loop
-c-family-level-loop-again-4 t c = run-on (c .before .before .before .before .before .before .before .before .before .before .before .before .before .before .loop .inv) (c .before .before .before .before .before .before .before .before .before .before .before .before .before .loop-test .taken) (c .before .before .before .before .before .before .before .before .before .before .node-end .ensures) (type-moved (c .before .before .before .before .before .before .before .before .before .before .before .before .before .before .loop .inv) (c .before .before .before .before .before .before .before .before .before .before .before .before .before .loop-test .taken) (c .before .before .before .before .before .before .before .before .before .before .before .before .shape-at .ensures) (c .before .before .before .before .before .before .before .before .before .before .before .exact-word .ensures) (c .before .before .before .before .before .before .before .before .before .before .node-end .ensures) (c .before .before .before .before .before .before .before .before .shape-at2 .ensures) (c .before .before .before .c-family-node .ensures) (c .before .act2 .given .1)) (c .before .before .before .before .before .before .before .before .before .before .before .before .shape-at .ensures _ (c .before .before .before .before .before .before .before .before .before .before .before .before .before .before .loop .inv .walk .stands), c .before .before .before .before .before .before .before .before .before .before .before .exact-word .ensures _ (c .before .before .before .before .before .before .before .before .before .before .before .before .before .before .loop .inv .walk .stands))
-
-c-family-level-loop-less-5 : (t : ℕ) → c-family-level-lts.Need-loop-less-5 (c-family-level-calls t) (c-family-level-at t) c-family-level.Post c-family-level-Inv-loop c-family-level-μ-loop
-c-family-level-loop-less-5 t c = omega (arith, walk-further (c .before .before .before .before .before .before .before .before .before .before .before .before .before .before .before .before .before .before .loop .inv .walk) (c .before .before .before .before .before .before .before .before .before .before .before .before .before .before .before .before .before .loop-test .taken) (c .before .before .before .before .before .before .before .before .before .before .before .before .before .before .node-end .ensures), walk-fits (c .before .before .before .before .before .before .before .before .before .before .before .before .before .before .before .before .before .before .loop .inv .walk) (c .before .before .before .before .before .before .before .before .before .before .before .before .before .before .before .before .before .loop-test .taken) (c .before .before .before .before .before .before .before .before .before .before .before .before .before .before .node-end .ensures))
-
-c-family-level-loop-again-5 : (t : ℕ) → c-family-level-lts.Need-loop-again-5 (c-family-level-calls t) (c-family-level-at t) c-family-level.Post c-family-level-Inv-loop c-family-level-μ-loop
-c-family-level-loop-again-5 t c = run-inside (c .before .before .before .before .before .before .before .before .before .before .before .before .before .before .before .before .before .before .loop .inv) (c .before .before .before .before .before .before .before .before .before .before .before .before .before .before .before .before .before .loop-test .taken) (c .before .before .before .before .before .before .before .before .before .before .before .before .before .before .node-end .ensures) (type-moved (c .before .before .before .before .before .before .before .before .before .before .before .before .before .before .before .before .before .before .loop .inv) (c .before .before .before .before .before .before .before .before .before .before .before .before .before .before .before .before .before .loop-test .taken) (c .before .before .before .before .before .before .before .before .before .before .before .before .before .before .before .before .shape-at .ensures) (c .before .before .before .before .before .before .before .before .before .before .before .before .before .before .before .exact-word .ensures) (c .before .before .before .before .before .before .before .before .before .before .before .before .before .before .node-end .ensures) (c .before .before .before .before .before .before .before .before .before .before .before .before .shape-at2 .ensures) (c .before .before .before .before .before .before .before .c-family-node .ensures) (c .before .before .before .before .before .act3 .given .1)) (c .before .before .before .test .ensures) (c .before .said2 .given .1) (c .before .before .before .before .before .before .before .before .before .before .before .before .before .before .before .before .shape-at .ensures _ (c .before .before .before .before .before .before .before .before .before .before .before .before .before .before .before .before .before .before .loop .inv .walk .stands), c .before .before .before .before .before .before .before .before .before .before .before .before .before .before .before .exact-word .ensures _ (c .before .before .before .before .before .before .before .before .before .before .before .before .before .before .before .before .before .before .loop .inv .walk .stands))
-
-c-family-level-plain-requires-2 : (t : ℕ) → c-family-level-lts.Need-plain-requires-2 (c-family-level-calls t) (c-family-level-at t) c-family-level.Post c-family-level-Inv-loop c-family-level-μ-loop
-c-family-level-plain-requires-2 t c κs = search needs
-
-c-family-level-returns-6 : (t : ℕ) → c-family-level-lts.Need-returns-6 (c-family-level-calls t) (c-family-level-at t) c-family-level.Post c-family-level-Inv-loop c-family-level-μ-loop
-unfolding type-end
-c-family-level-returns-6 t c = run-end (c .before .before .loop .inv) (omega arith) (c .plain2 .ensures)
 
 abbrev either-calls : ℕ → either-lts.Claims
 either-calls t = (validate-c-family-type-below t, validate-c-family-type.Post, validate-expression-below t, validate-expression.Post)
@@ -798,28 +651,324 @@ validate-abstract-declarator-returns-5 : (t : ℕ) → validate-abstract-declara
 unfolding declarator-end
 validate-abstract-declarator-returns-5 t c = run-end (c .before .before .loop .inv) (omega arith) (c .plain2 .ensures)
 
-abbrev validate-c-family-type-calls : ℕ → validate-c-family-type-lts.Claims
-validate-c-family-type-calls t = (is-type-word-reads.Asked, is-type-word-reads.Learnt, c-family-level-below t, c-family-level.Post)
+abbrev validate-c-family-type-Inv-loop : validate-c-family-type-lts.InvT-loop
+validate-c-family-type-Inv-loop language tree kinds words from to allowed left₀ before₀ word-before₀ st₀ at₀ left before word-before st at = InType language tree kinds words from to allowed left st before word-before at
 
-validate-c-family-type-returns : (t : ℕ) → validate-c-family-type-lts.Need-returns (validate-c-family-type-calls t) (validate-c-family-type-at t) validate-c-family-type.Post
+abbrev validate-c-family-type-μ-loop : validate-c-family-type-lts.MeasureT-loop
+validate-c-family-type-μ-loop language tree kinds words from to allowed left₀ before₀ word-before₀ st₀ at₀ left before word-before st at = to - at
+
+abbrev validate-c-family-type-calls : ℕ → validate-c-family-type-lts.Claims
+validate-c-family-type-calls t = (is-type-word-reads.Asked, is-type-word-reads.Learnt, validate-c-decl-specifiers-reads.Asked, validate-c-decl-specifiers-reads.Learnt, shape-at-reads.Asked, shape-at-reads.Learnt, exact-word-reads.Asked, exact-word-reads.Learnt, node-end-reads.Asked, node-end-reads.Learnt, takes-word-reads.Asked, takes-word-reads.Learnt, takes-scope-reads.Asked, takes-scope-reads.Learnt, takes-list-reads.Asked, takes-list-reads.Learnt, arguments-below t, arguments.Post, c-family-node-reads.Asked, c-family-node-reads.Learnt, plain-reads.Asked, plain-reads.Learnt, test-below t, test.Post)
+
+validate-c-family-type-returns : (t : ℕ) → validate-c-family-type-lts.Need-returns (validate-c-family-type-calls t)
+    (validate-c-family-type-at t)
+    validate-c-family-type.Post
+    validate-c-family-type-Inv-loop
+    validate-c-family-type-μ-loop
 validate-c-family-type-returns t c = entry-spent _ (type-entry _ _ _) (c .if1 .taken)
 
 validate-c-family-type-is-type-word-requires :
-    (t : ℕ) → validate-c-family-type-lts.Need-is-type-word-requires (validate-c-family-type-calls t) (validate-c-family-type-at t) validate-c-family-type.Post
+    (t : ℕ) → validate-c-family-type-lts.Need-is-type-word-requires (validate-c-family-type-calls t)
+    (validate-c-family-type-at t)
+    validate-c-family-type.Post
+    validate-c-family-type-Inv-loop
+    validate-c-family-type-μ-loop
 validate-c-family-type-is-type-word-requires t c κs = c .before .before .before .before .pre .1
 
-validate-c-family-type-sub-t10 : (t : ℕ) → validate-c-family-type-lts.Need-sub-t10 (validate-c-family-type-calls t) (validate-c-family-type-at t) validate-c-family-type.Post
-validate-c-family-type-sub-t10 t c = omega arith
+validate-c-family-type-sub-t28 : (t : ℕ) → validate-c-family-type-lts.Need-sub-t28 (validate-c-family-type-calls t)
+    (validate-c-family-type-at t)
+    validate-c-family-type.Post
+    validate-c-family-type-Inv-loop
+    validate-c-family-type-μ-loop
+validate-c-family-type-sub-t28 t c = omega arith
 
-validate-c-family-type-returns-2 : (t : ℕ) → validate-c-family-type-lts.Need-returns-2 (validate-c-family-type-calls t) (validate-c-family-type-at t) validate-c-family-type.Post
+validate-c-family-type-returns-2 : (t : ℕ) → validate-c-family-type-lts.Need-returns-2 (validate-c-family-type-calls t)
+    (validate-c-family-type-at t)
+    validate-c-family-type.Post
+    validate-c-family-type-Inv-loop
+    validate-c-family-type-μ-loop
 validate-c-family-type-returns-2 t c = word-type _ _ _ (omega arith) (c .before .is-type-word .ensures) (c .if2 .taken)
 
-validate-c-family-type-c-family-level-requires :
-    (t : ℕ) → validate-c-family-type-lts.Need-c-family-level-requires (validate-c-family-type-calls t) (validate-c-family-type-at t) validate-c-family-type.Post
-validate-c-family-type-c-family-level-requires t c κs = (omega (arith, c .before .before .before .before .before .before .pre .0), (omega arith, c .before .before .before .before .before .before .pre .1))
+validate-c-family-type-sub-left : (t : ℕ) → validate-c-family-type-lts.Need-sub-left (validate-c-family-type-calls t)
+    (validate-c-family-type-at t)
+    validate-c-family-type.Post
+    validate-c-family-type-Inv-loop
+    validate-c-family-type-μ-loop
+validate-c-family-type-sub-left t c = omega arith
 
-validate-c-family-type-returns-3 : (t : ℕ) → validate-c-family-type-lts.Need-returns-3 (validate-c-family-type-calls t) (validate-c-family-type-at t) validate-c-family-type.Post
-validate-c-family-type-returns-3 t c = c .c-family-level .ensures
+validate-c-family-type-validate-c-decl-specifiers-requires :
+    (t : ℕ) → validate-c-family-type-lts.Need-validate-c-decl-specifiers-requires (validate-c-family-type-calls t)
+    (validate-c-family-type-at t)
+    validate-c-family-type.Post
+    validate-c-family-type-Inv-loop
+    validate-c-family-type-μ-loop
+validate-c-family-type-validate-c-decl-specifiers-requires t c κs = c .before .before .before .before .before .before .pre .1
+
+validate-c-family-type-returns-3 : (t : ℕ) → validate-c-family-type-lts.Need-returns-3 (validate-c-family-type-calls t)
+    (validate-c-family-type-at t)
+    validate-c-family-type.Post
+    validate-c-family-type-Inv-loop
+    validate-c-family-type-μ-loop
+validate-c-family-type-returns-3 t c = head-fails _ _ (type-entry _ _ _) (omega arith) (c .before .validate-c-decl-specifiers .ensures) (not-true _ (c .if3 .taken))
+
+validate-c-family-type-loop-holds : (t : ℕ) → validate-c-family-type-lts.Need-loop-holds (validate-c-family-type-calls t)
+    (validate-c-family-type-at t)
+    validate-c-family-type.Post
+    validate-c-family-type-Inv-loop
+    validate-c-family-type-μ-loop
+validate-c-family-type-loop-holds t c = run-start (refl, no-word-before) (c .before .before .before .before .before .before .before .before .pre .1 .nodes-stand) (head-holds _ _ (type-entry _ _ _) (omega arith) (c .before .validate-c-decl-specifiers .ensures) (not-false _ (c .if3 .left)))
+
+validate-c-family-type-shape-at-requires :
+    (t : ℕ) → validate-c-family-type-lts.Need-shape-at-requires (validate-c-family-type-calls t)
+    (validate-c-family-type-at t)
+    validate-c-family-type.Post
+    validate-c-family-type-Inv-loop
+    validate-c-family-type-μ-loop
+validate-c-family-type-shape-at-requires t c κs = walk-formed (c .before .loop .inv .walk)
+
+validate-c-family-type-exact-word-requires :
+    (t : ℕ) → validate-c-family-type-lts.Need-exact-word-requires (validate-c-family-type-calls t)
+    (validate-c-family-type-at t)
+    validate-c-family-type.Post
+    validate-c-family-type-Inv-loop
+    validate-c-family-type-μ-loop
+validate-c-family-type-exact-word-requires t c κs = record { nodes-stand = walk-formed (c .before .before .loop .inv .walk); worded = c .before .before .before .before .before .before .before .before .before .before .before .pre .1 .worded }
+
+validate-c-family-type-node-end-requires :
+    (t : ℕ) → validate-c-family-type-lts.Need-node-end-requires (validate-c-family-type-calls t)
+    (validate-c-family-type-at t)
+    validate-c-family-type.Post
+    validate-c-family-type-Inv-loop
+    validate-c-family-type-μ-loop
+validate-c-family-type-node-end-requires t c κs = (c .before .before .loop-test .taken, walk-formed (c .before .before .before .loop .inv .walk))
+
+validate-c-family-type-takes-word-requires :
+    (t : ℕ) → validate-c-family-type-lts.Need-takes-word-requires (validate-c-family-type-calls t)
+    (validate-c-family-type-at t)
+    validate-c-family-type.Post
+    validate-c-family-type-Inv-loop
+    validate-c-family-type-μ-loop
+validate-c-family-type-takes-word-requires t c κs = search needs
+
+validate-c-family-type-returns-4 : (t : ℕ) → validate-c-family-type-lts.Need-returns-4 (validate-c-family-type-calls t)
+    (validate-c-family-type-at t)
+    validate-c-family-type.Post
+    validate-c-family-type-Inv-loop
+    validate-c-family-type-μ-loop
+validate-c-family-type-returns-4 t c = run-stop (c .before .before .before .before .before .before .before .loop .inv) (c .before .before .before .before .before .before .loop-test .taken) (at-wrong-word (c .before .before .before .before .before .before .before .loop .inv) (c .before .before .before .before .before .shape-at .ensures) (c .before .before .before .before .exact-word .ensures) (c .before .before .if4 .taken) (c .before .takes-word .ensures) (not-true _ (c .if5 .taken))) (sym (limited-no _))
+
+validate-c-family-type-loop-less : (t : ℕ) → validate-c-family-type-lts.Need-loop-less (validate-c-family-type-calls t)
+    (validate-c-family-type-at t)
+    validate-c-family-type.Post
+    validate-c-family-type-Inv-loop
+    validate-c-family-type-μ-loop
+validate-c-family-type-loop-less t c = omega (arith, walk-further (c .before .before .before .before .before .before .before .loop .inv .walk) (c .before .before .before .before .before .before .loop-test .taken) (c .before .before .before .node-end .ensures), walk-fits (c .before .before .before .before .before .before .before .loop .inv .walk) (c .before .before .before .before .before .before .loop-test .taken) (c .before .before .before .node-end .ensures))
+
+validate-c-family-type-loop-again : (t : ℕ) → validate-c-family-type-lts.Need-loop-again (validate-c-family-type-calls t)
+    (validate-c-family-type-at t)
+    validate-c-family-type.Post
+    validate-c-family-type-Inv-loop
+    validate-c-family-type-μ-loop
+validate-c-family-type-loop-again t c = run-on (c .before .before .before .before .before .before .before .loop .inv) (c .before .before .before .before .before .before .loop-test .taken) (c .before .before .before .node-end .ensures) (at-word (c .before .before .before .before .before .before .before .loop .inv) (c .before .before .before .before .before .shape-at .ensures) (c .before .before .before .before .exact-word .ensures) (c .before .before .if4 .taken) (c .before .takes-word .ensures) (not-false _ (c .if5 .left))) (c .before .before .before .before .before .shape-at .ensures _ (c .before .before .before .before .before .before .before .loop .inv .walk .stands), c .before .before .before .before .exact-word .ensures _ (c .before .before .before .before .before .before .before .loop .inv .walk .stands))
+
+validate-c-family-type-shape-at-requires-2 :
+    (t : ℕ) → validate-c-family-type-lts.Need-shape-at-requires-2 (validate-c-family-type-calls t)
+    (validate-c-family-type-at t)
+    validate-c-family-type.Post
+    validate-c-family-type-Inv-loop
+    validate-c-family-type-μ-loop
+validate-c-family-type-shape-at-requires-2 t c κs = walk-after (c .before .before .before .before .before .loop .inv .walk) (c .before .before .before .before .loop-test .taken) (c .before .node-end .ensures)
+
+validate-c-family-type-takes-scope-requires :
+    (t : ℕ) → validate-c-family-type-lts.Need-takes-scope-requires (validate-c-family-type-calls t)
+    (validate-c-family-type-at t)
+    validate-c-family-type.Post
+    validate-c-family-type-Inv-loop
+    validate-c-family-type-μ-loop
+validate-c-family-type-takes-scope-requires t c κs = search needs
+
+validate-c-family-type-loop-less-2 : (t : ℕ) → validate-c-family-type-lts.Need-loop-less-2 (validate-c-family-type-calls t)
+    (validate-c-family-type-at t)
+    validate-c-family-type.Post
+    validate-c-family-type-Inv-loop
+    validate-c-family-type-μ-loop
+validate-c-family-type-loop-less-2 t c = omega (arith, walk-further (c .before .before .before .before .before .before .before .before .loop .inv .walk) (c .before .before .before .before .before .before .before .loop-test .taken) (c .before .before .before .before .node-end .ensures), walk-fits (c .before .before .before .before .before .before .before .before .loop .inv .walk) (c .before .before .before .before .before .before .before .loop-test .taken) (c .before .before .before .before .node-end .ensures))
+
+validate-c-family-type-loop-again-2 : (t : ℕ) → validate-c-family-type-lts.Need-loop-again-2 (validate-c-family-type-calls t)
+    (validate-c-family-type-at t)
+    validate-c-family-type.Post
+    validate-c-family-type-Inv-loop
+    validate-c-family-type-μ-loop
+validate-c-family-type-loop-again-2 t c = run-on (c .before .before .before .before .before .before .before .before .loop .inv) (c .before .before .before .before .before .before .before .loop-test .taken) (c .before .before .before .before .node-end .ensures) (at-scope (c .before .before .before .before .before .before .before .before .loop .inv) (c .before .before .before .before .before .before .shape-at .ensures) (c .before .before .before .before .before .before .before .loop-test .taken) (c .before .before .before .before .node-end .ensures) (c .before .before .shape-at2 .ensures) (c .before .takes-scope .ensures) (c .if6 .taken)) (c .before .before .before .before .before .before .shape-at .ensures _ (c .before .before .before .before .before .before .before .before .loop .inv .walk .stands), c .before .before .before .before .before .exact-word .ensures _ (c .before .before .before .before .before .before .before .before .loop .inv .walk .stands))
+
+validate-c-family-type-takes-list-requires :
+    (t : ℕ) → validate-c-family-type-lts.Need-takes-list-requires (validate-c-family-type-calls t)
+    (validate-c-family-type-at t)
+    validate-c-family-type.Post
+    validate-c-family-type-Inv-loop
+    validate-c-family-type-μ-loop
+validate-c-family-type-takes-list-requires t c κs = search needs
+
+validate-c-family-type-add-arguments : (t : ℕ) → validate-c-family-type-lts.Need-add-arguments (validate-c-family-type-calls t)
+    (validate-c-family-type-at t)
+    validate-c-family-type.Post
+    validate-c-family-type-Inv-loop
+    validate-c-family-type-μ-loop
+validate-c-family-type-add-arguments t c = omega (arith, c .before .before .before .before .before .before .before .before .before .before .loop .inv .walk .few)
+
+validate-c-family-type-arguments-requires :
+    (t : ℕ) → validate-c-family-type-lts.Need-arguments-requires (validate-c-family-type-calls t)
+    (validate-c-family-type-at t)
+    validate-c-family-type.Post
+    validate-c-family-type-Inv-loop
+    validate-c-family-type-μ-loop
+validate-c-family-type-arguments-requires t c κs = (omega (arith, walk-further (c .before .before .before .before .before .before .before .before .before .before .loop .inv .walk) (c .before .before .before .before .before .before .before .before .before .loop-test .taken) (c .before .before .before .before .before .before .node-end .ensures), walk-fits (c .before .before .before .before .before .before .before .before .before .before .loop .inv .walk) (c .before .before .before .before .before .before .before .before .before .loop-test .taken) (c .before .before .before .before .before .before .node-end .ensures), c .before .before .before .before .before .before .before .before .before .before .loop .inv .walk .past, c .before .before .before .before .before .before .before .before .before .before .before .before .before .before .before .before .before .before .before .pre .0), walk-below (c .before .before .before .before .before .before .before .before .before .before .loop .inv .walk) (c .before .before .before .before .before .before .before .before .before .loop-test .taken) (c .before .before .before .before .before .before .node-end .ensures) (c .before .before .before .before .before .before .before .before .before .before .before .before .before .before .before .before .before .before .before .pre .1 .worded))
+
+validate-c-family-type-enum-known-said : (t : ℕ) → validate-c-family-type-lts.Need-enum-known-said (validate-c-family-type-calls t)
+    (validate-c-family-type-at t)
+    validate-c-family-type.Post
+    validate-c-family-type-Inv-loop
+    validate-c-family-type-μ-loop
+validate-c-family-type-enum-known-said t c = search needs
+
+validate-c-family-type-returns-5 : (t : ℕ) → validate-c-family-type-lts.Need-returns-5 (validate-c-family-type-calls t)
+    (validate-c-family-type-at t)
+    validate-c-family-type.Post
+    validate-c-family-type-Inv-loop
+    validate-c-family-type-μ-loop
+validate-c-family-type-returns-5 t c = run-stops (c .before .before .before .before .before .before .before .before .before .before .before .before .loop .inv) (c .before .before .before .before .before .before .before .before .before .before .before .loop-test .taken) (c .before .before .before .before .before .before .before .before .node-end .ensures) (at-list (c .before .before .before .before .before .before .before .before .before .before .before .before .loop .inv) (c .before .before .before .before .before .before .before .before .before .before .shape-at .ensures) (c .before .before .before .takes-list .ensures) (c .before .before .if7 .taken)) (c .before .arguments .ensures) (not-holds (tagOf the-type) (λ l. refl) _ (c .match .keys2))
+
+validate-c-family-type-loop-less-3 : (t : ℕ) → validate-c-family-type-lts.Need-loop-less-3 (validate-c-family-type-calls t)
+    (validate-c-family-type-at t)
+    validate-c-family-type.Post
+    validate-c-family-type-Inv-loop
+    validate-c-family-type-μ-loop
+validate-c-family-type-loop-less-3 t c = omega (arith, walk-further (c .before .before .before .before .before .before .before .before .before .before .before .before .before .before .loop .inv .walk) (c .before .before .before .before .before .before .before .before .before .before .before .before .before .loop-test .taken) (c .before .before .before .before .before .before .before .before .before .before .node-end .ensures), walk-fits (c .before .before .before .before .before .before .before .before .before .before .before .before .before .before .loop .inv .walk) (c .before .before .before .before .before .before .before .before .before .before .before .before .before .loop-test .taken) (c .before .before .before .before .before .before .before .before .before .before .node-end .ensures))
+
+validate-c-family-type-loop-again-3 : (t : ℕ) → validate-c-family-type-lts.Need-loop-again-3 (validate-c-family-type-calls t)
+    (validate-c-family-type-at t)
+    validate-c-family-type.Post
+    validate-c-family-type-Inv-loop
+    validate-c-family-type-μ-loop
+validate-c-family-type-loop-again-3 t c = run-inside (c .before .before .before .before .before .before .before .before .before .before .before .before .before .before .loop .inv) (c .before .before .before .before .before .before .before .before .before .before .before .before .before .loop-test .taken) (c .before .before .before .before .before .before .before .before .before .before .node-end .ensures) (at-list (c .before .before .before .before .before .before .before .before .before .before .before .before .before .before .loop .inv) (c .before .before .before .before .before .before .before .before .before .before .before .before .shape-at .ensures) (c .before .before .before .before .before .takes-list .ensures) (c .before .before .before .before .if7 .taken)) (c .before .before .before .arguments .ensures) (c .before .said .given .1) (c .before .before .before .before .before .before .before .before .before .before .before .before .shape-at .ensures _ (c .before .before .before .before .before .before .before .before .before .before .before .before .before .before .loop .inv .walk .stands), c .before .before .before .before .before .before .before .before .before .before .before .exact-word .ensures _ (c .before .before .before .before .before .before .before .before .before .before .before .before .before .before .loop .inv .walk .stands))
+
+validate-c-family-type-c-family-node-requires :
+    (t : ℕ) → validate-c-family-type-lts.Need-c-family-node-requires (validate-c-family-type-calls t)
+    (validate-c-family-type-at t)
+    validate-c-family-type.Post
+    validate-c-family-type-Inv-loop
+    validate-c-family-type-μ-loop
+validate-c-family-type-c-family-node-requires t c κs = search needs
+
+validate-c-family-type-enum-known-act : (t : ℕ) → validate-c-family-type-lts.Need-enum-known-act (validate-c-family-type-calls t)
+    (validate-c-family-type-at t)
+    validate-c-family-type.Post
+    validate-c-family-type-Inv-loop
+    validate-c-family-type-μ-loop
+validate-c-family-type-enum-known-act t c = search needs
+
+validate-c-family-type-plain-requires : (t : ℕ) → validate-c-family-type-lts.Need-plain-requires (validate-c-family-type-calls t)
+    (validate-c-family-type-at t)
+    validate-c-family-type.Post
+    validate-c-family-type-Inv-loop
+    validate-c-family-type-μ-loop
+validate-c-family-type-plain-requires t c κs = search needs
+
+validate-c-family-type-returns-6 : (t : ℕ) → validate-c-family-type-lts.Need-returns-6 (validate-c-family-type-calls t)
+    (validate-c-family-type-at t)
+    validate-c-family-type.Post
+    validate-c-family-type-Inv-loop
+    validate-c-family-type-μ-loop
+validate-c-family-type-returns-6 t c = run-stop (c .before .before .before .before .before .before .before .before .before .before .before .before .before .before .before .loop .inv) (c .before .before .before .before .before .before .before .before .before .before .before .before .before .before .loop-test .taken) (type-moved (c .before .before .before .before .before .before .before .before .before .before .before .before .before .before .before .loop .inv) (c .before .before .before .before .before .before .before .before .before .before .before .before .before .before .loop-test .taken) (c .before .before .before .before .before .before .before .before .before .before .before .before .before .shape-at .ensures) (c .before .before .before .before .before .before .before .before .before .before .before .before .exact-word .ensures) (c .before .before .before .before .before .before .before .before .before .before .before .node-end .ensures) (c .before .before .before .before .before .before .before .before .before .shape-at2 .ensures) (c .before .before .before .before .c-family-node .ensures) (c .before .before .act .given .1)) (c .plain .ensures)
+
+validate-c-family-type-enum-known-act-2 :
+    (t : ℕ) → validate-c-family-type-lts.Need-enum-known-act-2 (validate-c-family-type-calls t)
+    (validate-c-family-type-at t)
+    validate-c-family-type.Post
+    validate-c-family-type-Inv-loop
+    validate-c-family-type-μ-loop
+validate-c-family-type-enum-known-act-2 t c = search needs
+
+validate-c-family-type-enum-known-act-3 :
+    (t : ℕ) → validate-c-family-type-lts.Need-enum-known-act-3 (validate-c-family-type-calls t)
+    (validate-c-family-type-at t)
+    validate-c-family-type.Post
+    validate-c-family-type-Inv-loop
+    validate-c-family-type-μ-loop
+validate-c-family-type-enum-known-act-3 t c = search needs
+
+validate-c-family-type-add-test : (t : ℕ) → validate-c-family-type-lts.Need-add-test (validate-c-family-type-calls t)
+    (validate-c-family-type-at t)
+    validate-c-family-type.Post
+    validate-c-family-type-Inv-loop
+    validate-c-family-type-μ-loop
+validate-c-family-type-add-test t c = omega (arith, c .before .before .before .before .before .before .before .before .before .before .before .before .before .before .loop .inv .walk .few)
+
+validate-c-family-type-test-requires : (t : ℕ) → validate-c-family-type-lts.Need-test-requires (validate-c-family-type-calls t)
+    (validate-c-family-type-at t)
+    validate-c-family-type.Post
+    validate-c-family-type-Inv-loop
+    validate-c-family-type-μ-loop
+validate-c-family-type-test-requires t c κs = (omega (arith, walk-further (c .before .before .before .before .before .before .before .before .before .before .before .before .before .before .loop .inv .walk) (c .before .before .before .before .before .before .before .before .before .before .before .before .before .loop-test .taken) (c .before .before .before .before .before .before .before .before .before .before .node-end .ensures), walk-fits (c .before .before .before .before .before .before .before .before .before .before .before .before .before .before .loop .inv .walk) (c .before .before .before .before .before .before .before .before .before .before .before .before .before .loop-test .taken) (c .before .before .before .before .before .before .before .before .before .before .node-end .ensures), c .before .before .before .before .before .before .before .before .before .before .before .before .before .before .loop .inv .walk .past, c .before .before .before .before .before .before .before .before .before .before .before .before .before .before .before .before .before .before .before .before .before .before .before .pre .0), walk-below (c .before .before .before .before .before .before .before .before .before .before .before .before .before .before .loop .inv .walk) (c .before .before .before .before .before .before .before .before .before .before .before .before .before .loop-test .taken) (c .before .before .before .before .before .before .before .before .before .before .node-end .ensures) (c .before .before .before .before .before .before .before .before .before .before .before .before .before .before .before .before .before .before .before .before .before .before .before .pre .1 .worded))
+
+validate-c-family-type-enum-known-said-2 :
+    (t : ℕ) → validate-c-family-type-lts.Need-enum-known-said-2 (validate-c-family-type-calls t)
+    (validate-c-family-type-at t)
+    validate-c-family-type.Post
+    validate-c-family-type-Inv-loop
+    validate-c-family-type-μ-loop
+validate-c-family-type-enum-known-said-2 t c = search needs
+
+validate-c-family-type-returns-7 : (t : ℕ) → validate-c-family-type-lts.Need-returns-7 (validate-c-family-type-calls t)
+    (validate-c-family-type-at t)
+    validate-c-family-type.Post
+    validate-c-family-type-Inv-loop
+    validate-c-family-type-μ-loop
+validate-c-family-type-returns-7 t c = run-stops (c .before .before .before .before .before .before .before .before .before .before .before .before .before .before .before .before .loop .inv) (c .before .before .before .before .before .before .before .before .before .before .before .before .before .before .before .loop-test .taken) (c .before .before .before .before .before .before .before .before .before .before .before .before .node-end .ensures) (type-moved (c .before .before .before .before .before .before .before .before .before .before .before .before .before .before .before .before .loop .inv) (c .before .before .before .before .before .before .before .before .before .before .before .before .before .before .before .loop-test .taken) (c .before .before .before .before .before .before .before .before .before .before .before .before .before .before .shape-at .ensures) (c .before .before .before .before .before .before .before .before .before .before .before .before .before .exact-word .ensures) (c .before .before .before .before .before .before .before .before .before .before .before .before .node-end .ensures) (c .before .before .before .before .before .before .before .before .before .before .shape-at2 .ensures) (c .before .before .before .before .before .c-family-node .ensures) (c .before .before .before .act3 .given .1)) (c .before .test .ensures) (not-holds (tagOf the-type) (λ l. refl) _ (c .match3 .keys2))
+
+validate-c-family-type-loop-less-4 : (t : ℕ) → validate-c-family-type-lts.Need-loop-less-4 (validate-c-family-type-calls t)
+    (validate-c-family-type-at t)
+    validate-c-family-type.Post
+    validate-c-family-type-Inv-loop
+    validate-c-family-type-μ-loop
+validate-c-family-type-loop-less-4 t c = omega (arith, walk-further (c .before .before .before .before .before .before .before .before .before .before .before .before .before .before .loop .inv .walk) (c .before .before .before .before .before .before .before .before .before .before .before .before .before .loop-test .taken) (c .before .before .before .before .before .before .before .before .before .before .node-end .ensures), walk-fits (c .before .before .before .before .before .before .before .before .before .before .before .before .before .before .loop .inv .walk) (c .before .before .before .before .before .before .before .before .before .before .before .before .before .loop-test .taken) (c .before .before .before .before .before .before .before .before .before .before .node-end .ensures))
+
+validate-c-family-type-loop-again-4 : (t : ℕ) → validate-c-family-type-lts.Need-loop-again-4 (validate-c-family-type-calls t)
+    (validate-c-family-type-at t)
+    validate-c-family-type.Post
+    validate-c-family-type-Inv-loop
+    validate-c-family-type-μ-loop
+validate-c-family-type-loop-again-4 t c = run-on (c .before .before .before .before .before .before .before .before .before .before .before .before .before .before .loop .inv) (c .before .before .before .before .before .before .before .before .before .before .before .before .before .loop-test .taken) (c .before .before .before .before .before .before .before .before .before .before .node-end .ensures) (type-moved (c .before .before .before .before .before .before .before .before .before .before .before .before .before .before .loop .inv) (c .before .before .before .before .before .before .before .before .before .before .before .before .before .loop-test .taken) (c .before .before .before .before .before .before .before .before .before .before .before .before .shape-at .ensures) (c .before .before .before .before .before .before .before .before .before .before .before .exact-word .ensures) (c .before .before .before .before .before .before .before .before .before .before .node-end .ensures) (c .before .before .before .before .before .before .before .before .shape-at2 .ensures) (c .before .before .before .c-family-node .ensures) (c .before .act2 .given .1)) (c .before .before .before .before .before .before .before .before .before .before .before .before .shape-at .ensures _ (c .before .before .before .before .before .before .before .before .before .before .before .before .before .before .loop .inv .walk .stands), c .before .before .before .before .before .before .before .before .before .before .before .exact-word .ensures _ (c .before .before .before .before .before .before .before .before .before .before .before .before .before .before .loop .inv .walk .stands))
+
+validate-c-family-type-loop-less-5 : (t : ℕ) → validate-c-family-type-lts.Need-loop-less-5 (validate-c-family-type-calls t)
+    (validate-c-family-type-at t)
+    validate-c-family-type.Post
+    validate-c-family-type-Inv-loop
+    validate-c-family-type-μ-loop
+validate-c-family-type-loop-less-5 t c = omega (arith, walk-further (c .before .before .before .before .before .before .before .before .before .before .before .before .before .before .before .before .before .before .loop .inv .walk) (c .before .before .before .before .before .before .before .before .before .before .before .before .before .before .before .before .before .loop-test .taken) (c .before .before .before .before .before .before .before .before .before .before .before .before .before .before .node-end .ensures), walk-fits (c .before .before .before .before .before .before .before .before .before .before .before .before .before .before .before .before .before .before .loop .inv .walk) (c .before .before .before .before .before .before .before .before .before .before .before .before .before .before .before .before .before .loop-test .taken) (c .before .before .before .before .before .before .before .before .before .before .before .before .before .before .node-end .ensures))
+
+validate-c-family-type-loop-again-5 : (t : ℕ) → validate-c-family-type-lts.Need-loop-again-5 (validate-c-family-type-calls t)
+    (validate-c-family-type-at t)
+    validate-c-family-type.Post
+    validate-c-family-type-Inv-loop
+    validate-c-family-type-μ-loop
+validate-c-family-type-loop-again-5 t c = run-inside (c .before .before .before .before .before .before .before .before .before .before .before .before .before .before .before .before .before .before .loop .inv) (c .before .before .before .before .before .before .before .before .before .before .before .before .before .before .before .before .before .loop-test .taken) (c .before .before .before .before .before .before .before .before .before .before .before .before .before .before .node-end .ensures) (type-moved (c .before .before .before .before .before .before .before .before .before .before .before .before .before .before .before .before .before .before .loop .inv) (c .before .before .before .before .before .before .before .before .before .before .before .before .before .before .before .before .before .loop-test .taken) (c .before .before .before .before .before .before .before .before .before .before .before .before .before .before .before .before .shape-at .ensures) (c .before .before .before .before .before .before .before .before .before .before .before .before .before .before .before .exact-word .ensures) (c .before .before .before .before .before .before .before .before .before .before .before .before .before .before .node-end .ensures) (c .before .before .before .before .before .before .before .before .before .before .before .before .shape-at2 .ensures) (c .before .before .before .before .before .before .before .c-family-node .ensures) (c .before .before .before .before .before .act3 .given .1)) (c .before .before .before .test .ensures) (c .before .said2 .given .1) (c .before .before .before .before .before .before .before .before .before .before .before .before .before .before .before .before .shape-at .ensures _ (c .before .before .before .before .before .before .before .before .before .before .before .before .before .before .before .before .before .before .loop .inv .walk .stands), c .before .before .before .before .before .before .before .before .before .before .before .before .before .before .before .exact-word .ensures _ (c .before .before .before .before .before .before .before .before .before .before .before .before .before .before .before .before .before .before .loop .inv .walk .stands))
+
+validate-c-family-type-plain-requires-2 :
+    (t : ℕ) → validate-c-family-type-lts.Need-plain-requires-2 (validate-c-family-type-calls t)
+    (validate-c-family-type-at t)
+    validate-c-family-type.Post
+    validate-c-family-type-Inv-loop
+    validate-c-family-type-μ-loop
+validate-c-family-type-plain-requires-2 t c κs = search needs
+
+validate-c-family-type-returns-8 : (t : ℕ) → validate-c-family-type-lts.Need-returns-8 (validate-c-family-type-calls t)
+    (validate-c-family-type-at t)
+    validate-c-family-type.Post
+    validate-c-family-type-Inv-loop
+    validate-c-family-type-μ-loop
+unfolding type-end
+validate-c-family-type-returns-8 t c = run-end (c .before .before .loop .inv) (omega arith) (c .plain2 .ensures)
 
 abbrev validate-cpp-template-argument-calls : ℕ → validate-cpp-template-argument-lts.Claims
 validate-cpp-template-argument-calls t = (either-below t, either.Post)
@@ -1107,12 +1256,11 @@ validate-parameter-type-list-loop-again :
     validate-parameter-type-list-μ-loop
 validate-parameter-type-list-loop-again t c = elements-next _ (walk-holds (c .before .before .before .before .before .before .before .loop .inv) (elements-turn _ (c .before .before .before .before .before .before .before .loop .inv) (c .before .before .before .before .before .before .element-end .ensures)) (c .before .before .before .before .before .parameter .ensures) (c .before .before .before .said .given .1)) (omega (arith, elements-fit _ (c .before .before .before .before .before .before .before .loop .inv) (c .before .before .before .before .before .before .element-end .ensures), c .before .if3 .left)) (c .node-end .ensures)
 
-pub +arguments+c-family-level+either+parameter+test+validate-abstract-declarator+validate-c-family-type+validate-cpp-template-argument+validate-expression+validate-parameter-type-list-spec :
+pub +arguments+either+parameter+test+validate-abstract-declarator+validate-c-family-type+validate-cpp-template-argument+validate-expression+validate-parameter-type-list-spec :
     {M : Type 1} → statement M
-+arguments+c-family-level+either+parameter+test+validate-abstract-declarator+validate-c-family-type+validate-cpp-template-argument+validate-expression+validate-parameter-type-list-spec =
++arguments+either+parameter+test+validate-abstract-declarator+validate-c-family-type+validate-cpp-template-argument+validate-expression+validate-parameter-type-list-spec =
     close
     μ-arguments
-    μ-c-family-level
     μ-either
     μ-parameter
     μ-test
@@ -1135,49 +1283,6 @@ pub +arguments+c-family-level+either+parameter+test+validate-abstract-declarator
     (arguments-loop-less t)
     (arguments-loop-again t)
     (arguments-returns-2 t))
-    (λ t. c-family-level-lts.spec (c-family-level-calls t)
-    (c-family-level-at t)
-    c-family-level.Post
-    c-family-level-Inv-loop
-    c-family-level-μ-loop
-    (c-family-level-sub-left t)
-    (c-family-level-validate-c-decl-specifiers-requires t)
-    (c-family-level-returns t)
-    (c-family-level-loop-holds t)
-    (c-family-level-shape-at-requires t)
-    (c-family-level-exact-word-requires t)
-    (c-family-level-node-end-requires t)
-    (c-family-level-takes-word-requires t)
-    (c-family-level-returns-2 t)
-    (c-family-level-loop-less t)
-    (c-family-level-loop-again t)
-    (c-family-level-shape-at-requires-2 t)
-    (c-family-level-takes-scope-requires t)
-    (c-family-level-loop-less-2 t)
-    (c-family-level-loop-again-2 t)
-    (c-family-level-takes-list-requires t)
-    (c-family-level-add-arguments t)
-    (c-family-level-arguments-requires t)
-    (c-family-level-enum-known-said t)
-    (c-family-level-returns-3 t)
-    (c-family-level-loop-less-3 t)
-    (c-family-level-loop-again-3 t)
-    (c-family-level-c-family-node-requires t)
-    (c-family-level-enum-known-act t)
-    (c-family-level-plain-requires t)
-    (c-family-level-returns-4 t)
-    (c-family-level-enum-known-act-2 t)
-    (c-family-level-enum-known-act-3 t)
-    (c-family-level-add-test t)
-    (c-family-level-test-requires t)
-    (c-family-level-enum-known-said-2 t)
-    (c-family-level-returns-5 t)
-    (c-family-level-loop-less-4 t)
-    (c-family-level-loop-again-4 t)
-    (c-family-level-loop-less-5 t)
-    (c-family-level-loop-again-5 t)
-    (c-family-level-plain-requires-2 t)
-    (c-family-level-returns-6 t))
     (λ t. either-lts.spec (either-calls t)
     (either-at t)
     either.Post
@@ -1270,12 +1375,50 @@ pub +arguments+c-family-level+either+parameter+test+validate-abstract-declarator
     (λ t. validate-c-family-type-lts.spec (validate-c-family-type-calls t)
     (validate-c-family-type-at t)
     validate-c-family-type.Post
+    validate-c-family-type-Inv-loop
+    validate-c-family-type-μ-loop
     (validate-c-family-type-returns t)
     (validate-c-family-type-is-type-word-requires t)
-    (validate-c-family-type-sub-t10 t)
+    (validate-c-family-type-sub-t28 t)
     (validate-c-family-type-returns-2 t)
-    (validate-c-family-type-c-family-level-requires t)
-    (validate-c-family-type-returns-3 t))
+    (validate-c-family-type-sub-left t)
+    (validate-c-family-type-validate-c-decl-specifiers-requires t)
+    (validate-c-family-type-returns-3 t)
+    (validate-c-family-type-loop-holds t)
+    (validate-c-family-type-shape-at-requires t)
+    (validate-c-family-type-exact-word-requires t)
+    (validate-c-family-type-node-end-requires t)
+    (validate-c-family-type-takes-word-requires t)
+    (validate-c-family-type-returns-4 t)
+    (validate-c-family-type-loop-less t)
+    (validate-c-family-type-loop-again t)
+    (validate-c-family-type-shape-at-requires-2 t)
+    (validate-c-family-type-takes-scope-requires t)
+    (validate-c-family-type-loop-less-2 t)
+    (validate-c-family-type-loop-again-2 t)
+    (validate-c-family-type-takes-list-requires t)
+    (validate-c-family-type-add-arguments t)
+    (validate-c-family-type-arguments-requires t)
+    (validate-c-family-type-enum-known-said t)
+    (validate-c-family-type-returns-5 t)
+    (validate-c-family-type-loop-less-3 t)
+    (validate-c-family-type-loop-again-3 t)
+    (validate-c-family-type-c-family-node-requires t)
+    (validate-c-family-type-enum-known-act t)
+    (validate-c-family-type-plain-requires t)
+    (validate-c-family-type-returns-6 t)
+    (validate-c-family-type-enum-known-act-2 t)
+    (validate-c-family-type-enum-known-act-3 t)
+    (validate-c-family-type-add-test t)
+    (validate-c-family-type-test-requires t)
+    (validate-c-family-type-enum-known-said-2 t)
+    (validate-c-family-type-returns-7 t)
+    (validate-c-family-type-loop-less-4 t)
+    (validate-c-family-type-loop-again-4 t)
+    (validate-c-family-type-loop-less-5 t)
+    (validate-c-family-type-loop-again-5 t)
+    (validate-c-family-type-plain-requires-2 t)
+    (validate-c-family-type-returns-8 t))
     (λ t. validate-cpp-template-argument-lts.spec (validate-cpp-template-argument-calls t)
     (validate-cpp-template-argument-at t)
     validate-cpp-template-argument.Post
