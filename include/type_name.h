@@ -271,8 +271,8 @@ enum type_name_delimiter {
  *
  * It calls memcpy and memset of the C library, allocates nothing and keeps no state, so that threads may call it at the
  * same time.
- * Stack, as measured: at most 11 KB for some 5,600 rows of real type names, 52 KB for 64 nested lists or groups with the
- * structure check, the most that was seen. */
+ * Stack, as measured: at most 7 KB for some 5,600 rows of real type names, 49 KB for 64 nested groups with the structure
+ * check, the most that was seen. */
 uint32_t type_name_read(const uint8_t *file, size_t file_len,
                         uint32_t *tree, size_t tree_len,
                         uint32_t *answer, size_t answer_len);
@@ -308,8 +308,8 @@ uint32_t type_name_read(const uint8_t *file, size_t file_len,
  * bytes, and 0.04 s where 512 names of 255 bytes and a row are made to be slow.
  *
  * Proved and left to the caller as with type_name_read; `file` and `names` are only read and may overlap each other.
- * Stack, as measured: at most 16 KB for some 3,400 rows of real type names of C++, 57 KB for 64 nested lists or groups with the
- * structure check, the most that was seen: 5 KB more than type_name_read takes for a row that both read alike. */
+ * Stack, as measured: at most 13 KB for some 3,400 rows of real type names of C++, 54 KB for 64 nested groups with the structure
+ * check, the most that was seen: 5 KB more than type_name_read takes for a row that both read alike. */
 uint32_t type_name_read_named(const uint8_t *file, size_t file_len,
                               const uint8_t *names, size_t names_len,
                               uint32_t *tree, size_t tree_len,

@@ -31,7 +31,7 @@ use type_nodes::shapes::NO_NODE;
 use type_nodes::shapes::PARENTHESIZED;
 use type_nodes::shapes::TEMPLATE_ARGUMENTS;
 ghost use mathlib.Core.Path.{_≡_};
-ghost use mathlib.Core.Bool.{not, _&&_, _||_};
+ghost use mathlib.Core.Bool.{false, not, _&&_, _||_};
 ghost use lib.Dec.{eqb};
 ghost use Rattle.rows.specs.Languages.{Cpp};
 ghost use Rattle.rows.specs.Kinds.{Identifier, Scope};
@@ -128,6 +128,7 @@ fn c_family_group(language: u8, before: u8, st: TypeLoop) -> TypeMove
     type_inside_if(true, Inner::DeclaratorOrParameters(st.saw_type_word), begun)
 }
 
+// At a node that is no word: the loop takes words itself.
 pub fn c_family_node(
     language: u8,
     left: u8,
@@ -137,6 +138,7 @@ pub fn c_family_node(
     right: u8,
     st: TypeLoop,
 ) -> TypeMove
+    requires { ⌜ eqb shape Identifier ≡ false ⌝ }
     ensures { λ r. ⌜ type-move-of r ≡ c-family-node language left before shape word right (type-state-of st) ⌝ }
 {
     let named = TypeLoop {
@@ -149,10 +151,6 @@ pub fn c_family_node(
         declarator_started: true,
         saw_reference: st.saw_reference,
     };
-    if shape == IDENTIFIER {
-        let known = is_c_family_declarator_qualifier(word);
-        return type_on_if(!st.declarator_started | known, named);
-    }
     if shape == SCOPE {
         let good = scope_has_valid_neighbors(left, right);
         return type_on_if((language == CPP) & good, st);

@@ -5,7 +5,7 @@ use Prim.Native.Nat.{_+_, _*_, _-_, _≤_}
 use mathlib.Core.Path.{_≡_, refl, sym, _∙_}
 use native.Mathlib.Omega.{arith}
 use borrow.Author.Needs.{needs}
-use borrow.Author.Tests.{not-true, not-false}
+use borrow.Author.Tests.{ne-eqb, not-true, not-false}
 use denote.Enum.Declared.{tagOf}
 use Rattle.structure.proofs.moves.Verdict.{the-type}
 use Rattle.type_nodes.specs.Moves.{arguments}
@@ -858,7 +858,7 @@ validate-c-family-type-c-family-node-requires :
     validate-c-family-type.Post
     validate-c-family-type-Inv-loop
     validate-c-family-type-μ-loop
-validate-c-family-type-c-family-node-requires t c κs = search needs
+validate-c-family-type-c-family-node-requires t c κs = ne-eqb _ _ (c .before .before .before .before .before .if4 .left)
 
 validate-c-family-type-enum-known-act : (t : ℕ) → validate-c-family-type-lts.Need-enum-known-act (validate-c-family-type-calls t)
     (validate-c-family-type-at t)
