@@ -11,7 +11,7 @@ use rows::row::MOST_TOKENS;
 use rows::token::{TokenRecord, span, token_at};
 
 // `narrow`: every span ends below 2^32.
-#[derive(Drop)]
+#[derive(Clone, Copy)]
 pub enum Checked {
     Sound { count: usize, narrow: bool },
     Refused(TypeNameError),

@@ -13,7 +13,7 @@ use rows::format::{Format, current, old, token_length};
 use rows::head::{AT_LANGUAGE, AT_STANDARD};
 
 // `bytes`: how many stand in front of the output.
-#[derive(Drop)]
+#[derive(Clone, Copy)]
 pub enum ConvertAnswer {
     Converted { bytes: u32 },
     Refused(TypeNameError),

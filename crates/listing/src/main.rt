@@ -1,5 +1,7 @@
 // Prints the answer to a row file that is read from standard input: document 01, end of "Rows worked out".
 
+#![tactic(auto)]
+
 mod level;
 mod lines;
 

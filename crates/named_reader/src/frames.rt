@@ -15,7 +15,7 @@ use rows::answer::{Delimiter, TypeNameError};
 
 // `nodes` are begun. `inner`: one more than the number of the node that is open innermost, of the argument's in a list; 0 if none is. `nesting` groups and
 // lists are open, and `left` steps are left of the allowance.
-#[derive(Drop)]
+#[derive(Clone, Copy)]
 pub struct NamedReader {
     pub nodes: usize,
     pub inner: usize,
@@ -24,7 +24,7 @@ pub struct NamedReader {
 }
 
 // What comes of a token: on with the next; a refusal, with the steps left; or no step is left for it.
-#[derive(Drop)]
+#[derive(Clone, Copy)]
 pub enum NamedStep {
     On(NamedReader),
     Refused(TypeNameError, u32),

@@ -8,7 +8,7 @@ use rows::kinds::IDENTIFIER;
 use rows::token::{TokenRecord, token_at};
 
 // How many names a file lists.
-#[derive(Drop)]
+#[derive(Clone, Copy)]
 pub enum NamesRead {
     Listed(usize),
     Malformed,

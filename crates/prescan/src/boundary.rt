@@ -10,7 +10,7 @@ use crate::scan::{ScanState, delimiter, index};
 use rows::answer::TypeNameError;
 use rows::{kinds, languages};
 
-#[derive(Drop)]
+#[derive(Clone, Copy)]
 pub enum Prescanned {
     Passed,
     Refused(TypeNameError),

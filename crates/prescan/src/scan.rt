@@ -45,7 +45,7 @@ pub fn is_ordinary(kind: u8) -> bool
 }
 
 // What is known after some tokens. `depth` brackets are open: their token numbers stand in a lent stack.
-#[derive(Drop)]
+#[derive(Clone, Copy)]
 pub struct ScanState {
     pub depth: usize,
     pub angles: usize,
@@ -54,7 +54,7 @@ pub struct ScanState {
     pub last: u8,
 }
 
-#[derive(Drop)]
+#[derive(Clone, Copy)]
 pub enum ScanStep {
     On(ScanState),
     Refused(TypeNameError),

@@ -15,7 +15,7 @@ use rows::kinds::{EQUAL, LOGICAL_AND};
 use rows::languages::{C, C11, C23, C99, CPP, CPP11, FORTRAN, FORTRAN90, FORTRAN2003, FORTRAN2018};
 use rows::word_numbers::{ATOMIC, BIT_INT, CLASS, DECLTYPE, LONG, TYPE, TYPEOF, TYPEOF_UNQUAL};
 
-#[derive(Drop)]
+#[derive(Clone, Copy)]
 pub enum Lack {
     Nothing,
     Lacks(Feature),

@@ -19,7 +19,7 @@ use rows::answer::{Open, TypeNameError};
 use rows::kinds;
 
 // Where a reading stands: its token, whether half a `>>` is left, and the steps left of the allowance.
-#[derive(Drop)]
+#[derive(Clone, Copy)]
 pub struct TypeSyntaxParser {
     pub cursor: usize,
     pub pending_greater: bool,
@@ -53,21 +53,21 @@ impl TypeSyntaxParser {
 }
 
 // Why a reading stops: a refusal, with the steps left; or no step is left for the next node.
-#[derive(Drop)]
+#[derive(Clone, Copy)]
 pub enum Stop {
     Refused(TypeNameError, u32),
     Spent,
 }
 
 // What comes of reading nodes: where to go on, and how many nodes were written; or a stop.
-#[derive(Drop)]
+#[derive(Clone, Copy)]
 pub enum Reading {
     Done(TypeSyntaxParser, usize),
     Stopped(Stop),
 }
 
 // What comes of trying a list: its arguments; no list, with the steps left; or no step is left.
-#[derive(Drop)]
+#[derive(Clone, Copy)]
 pub enum ListReading {
     Read(TypeSyntaxParser, usize),
     Failed(u32),
@@ -75,7 +75,7 @@ pub enum ListReading {
 }
 
 // How the arguments of a list end.
-#[derive(Drop)]
+#[derive(Clone, Copy)]
 pub enum ListEnd {
     Closed,
     EmptyArgument,
@@ -83,7 +83,7 @@ pub enum ListEnd {
 }
 
 // What comes of reading a row.
-#[derive(Drop)]
+#[derive(Clone, Copy)]
 pub enum Parsed {
     Tree { nodes: usize, steps: u32 },
     Refused { error: TypeNameError, steps: u32 },

@@ -11,7 +11,7 @@ use rows::answer::{Delimiter, Open, TypeNameError};
 use rows::kinds;
 
 // How a node begins.
-#[derive(Drop)]
+#[derive(Clone, Copy)]
 pub enum Start {
     Group(Delimiter),
     Angle,
@@ -19,7 +19,7 @@ pub enum Start {
 }
 
 // What a token is to the nodes of the row or of a group.
-#[derive(Drop)]
+#[derive(Clone, Copy)]
 pub enum GroupStep {
     Ends(usize),
     Stops(TypeNameError),

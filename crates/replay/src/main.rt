@@ -1,6 +1,8 @@
 // Replays the original's answers: takes a list of cases from standard input, puts each to the entry and compares every number.
 // The list is described in docs/PROOFS.md, "Replayed answers".
 
+#![tactic(auto)]
+
 mod compare;
 mod numbers;
 mod report;
@@ -49,7 +51,7 @@ const STORED_LENGTH: usize = NUMBER_BYTES * BUFFER_LENGTH;
 const MOST_CASES: usize = 1000000;
 
 // What came of the next case.
-#[derive(Drop)]
+#[derive(Clone, Copy)]
 enum Outcome {
     Same,
     Differs,

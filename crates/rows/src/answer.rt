@@ -4,21 +4,21 @@
 ghost use Rattle.std.specs.Prelude.{◌≡◌};
 ghost use Rattle.rows.specs.Refusals.{feature_detail, named, open_detail, plainly, refusal_of};
 
-#[derive(Drop)]
+#[derive(Clone, Copy)]
 pub enum Delimiter {
     Parenthesis,
     Bracket,
 }
 
 // The innermost bracket open at a token, if one is.
-#[derive(Drop)]
+#[derive(Clone, Copy)]
 pub enum Open {
     Nothing,
     Opened(Delimiter),
 }
 
 // What a type name may use and a standard may lack.
-#[derive(Drop)]
+#[derive(Clone, Copy)]
 pub enum Feature {
     LongLong,
     Atomic,
@@ -33,7 +33,7 @@ pub enum Feature {
     AssumedTypeOrRank,
 }
 
-#[derive(Drop)]
+#[derive(Clone, Copy)]
 pub enum TypeNameError {
     FileTooLong,
     InvalidHead,
@@ -82,14 +82,14 @@ pub enum TypeNameError {
     NoRuleMatches,
 }
 
-#[derive(Drop)]
+#[derive(Clone, Copy)]
 pub enum Answer {
     Accepted { nodes: u32, steps: u32 },
     Refused { error: TypeNameError, steps: u32 },
 }
 
 // A refusal's number, token and detail, as users of the answer record see them.
-#[derive(Drop)]
+#[derive(Clone, Copy)]
 pub struct Refusal {
     pub number: u32,
     pub token: u32,

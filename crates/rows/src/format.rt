@@ -7,20 +7,20 @@ ghost use Rattle.rows.specs.declared.format.SpanWidth.TheVariants.{Eight};
 use crate::languages;
 
 // The bytes of a span's start, and of its end.
-#[derive(Drop)]
+#[derive(Clone, Copy)]
 pub enum SpanWidth {
     Four,
     Eight,
 }
 
 // What a standard's number outside the declared order means in each language.
-#[derive(Drop)]
+#[derive(Clone, Copy)]
 pub enum StandIn {
     Nothing,
     StandsFor { c: u8, cpp: u8, fortran: u8 },
 }
 
-#[derive(Drop)]
+#[derive(Clone, Copy)]
 pub struct Format {
     pub head_kind: usize,
     pub span_width: SpanWidth,

@@ -33,7 +33,7 @@ pub const STANDARD_255: u8 = 255;
 const WITHOUT_STRUCTURE: u8 = 0;
 
 // `standard` is the one that is meant: 254 and 255 stand for other numbers.
-#[derive(Drop)]
+#[derive(Clone, Copy)]
 pub struct Head {
     pub language: u8,
     pub standard: u8,
@@ -41,14 +41,14 @@ pub struct Head {
     pub allowance: u32,
 }
 
-#[derive(Drop)]
+#[derive(Clone, Copy)]
 pub enum FileHead {
     Formed(Head),
     Refused(TypeNameError),
 }
 
 // What a standard's number means in a language.
-#[derive(Drop)]
+#[derive(Clone, Copy)]
 pub enum Meaning {
     Means(u8),
     Unknown,

@@ -1,5 +1,7 @@
 // The row module: what answers are made of, and the records of a file (document 01, "Head record" and "Token record").
 
+#![tactic(auto)]
+
 pub mod answer;
 pub mod bytes;
 pub mod format;

@@ -12,13 +12,13 @@ use crate::words::number_of_word;
 pub const MOST_TOKENS: usize = 1024;
 
 // `next`: where the records after these begin.
-#[derive(Drop)]
+#[derive(Clone, Copy)]
 pub enum RecordsRead {
     Tokens { count: usize, next: usize },
     Malformed { offset: usize },
 }
 
-#[derive(Drop)]
+#[derive(Clone, Copy)]
 pub enum RowRead {
     Tokens(usize),
     Refused(TypeNameError),

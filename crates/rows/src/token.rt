@@ -16,7 +16,7 @@ const LEAST_WORD_BYTE: u8 = 33;
 const GREATEST_WORD_BYTE: u8 = 126;
 
 // What stands at a byte offset: a token record of this kind and length, or a malformed one.
-#[derive(Drop)]
+#[derive(Clone, Copy)]
 pub enum TokenRecord {
     Formed { kind: u8, length: usize },
     Malformed,
@@ -99,7 +99,7 @@ fn span_number(file: &[u8], at: usize, width: SpanWidth) -> usize
 }
 
 // Where a token stands in the source that its row was made from.
-#[derive(Drop)]
+#[derive(Clone, Copy)]
 pub struct SourceSpan {
     pub start: usize,
     pub end: usize,

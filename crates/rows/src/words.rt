@@ -14,7 +14,7 @@ const CAPITAL_Z: u8 = 90;
 // From a capital to its small letter.
 const TO_SMALL: u8 = 32;
 
-#[derive(Drop)]
+#[derive(Clone, Copy)]
 pub enum Comparison {
     Exact,
     OtherCase,

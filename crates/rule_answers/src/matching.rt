@@ -19,7 +19,7 @@ use type_name::entry::parse_type_name;
 // "Refusals 1 to 6 don't touch the tree buffer".
 const LAST_UNTOUCHED: u32 = 6;
 
-#[derive(Drop)]
+#[derive(Clone, Copy)]
 pub enum MatchAnswer {
     Matched { nodes: u32, steps: u32, place: u32 },
     Refused { error: TypeNameError, steps: u32 },

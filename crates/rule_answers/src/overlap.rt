@@ -11,7 +11,7 @@ use rules::shown::{LONGEST_SHOWN, put_shown};
 use rules::table::{AT_ITEMS, MOST_STARTS, TableRead, read_table};
 use text::hand_over;
 
-#[derive(Drop)]
+#[derive(Clone, Copy)]
 pub enum OverlapAnswer {
     Overlap {
         earlier: u32,

@@ -24,7 +24,7 @@ pub const REST: u8 = 5;
 pub const AFTER_TWO: usize = 2;
 
 // An item that counts, and where it ends.
-#[derive(Drop)]
+#[derive(Clone, Copy)]
 pub enum ItemRead {
     Item(usize),
     Malformed,

@@ -1,5 +1,7 @@
 // Rules over the top-level nodes of a tree: document 02, C-11.
 
+#![tactic(auto)]
+
 pub mod items;
 pub mod matching;
 pub mod overlaps;

@@ -6,7 +6,7 @@ ghost use Rattle.rules.specs.TableStands.{FirstLater, OfTable, PairTold, RulesRe
 use crate::overlaps::rules_meet;
 use crate::table::AT_ITEMS;
 
-#[derive(Drop)]
+#[derive(Clone, Copy)]
 pub enum PairFound {
     Pair { earlier: usize, later: usize },
     Nothing,

@@ -21,14 +21,14 @@ const RULE_KIND: usize = 272;
 pub const AT_ITEMS: usize = 4;
 
 // Where a rule's record ends.
-#[derive(Drop)]
+#[derive(Clone, Copy)]
 pub enum RuleRead {
     Rule(usize),
     Malformed,
 }
 
 // How many rules a table has.
-#[derive(Drop)]
+#[derive(Clone, Copy)]
 pub enum TableRead {
     Rules(usize),
     Malformed,

@@ -11,7 +11,7 @@ ghost use Rattle.rules.specs.TableStands.{OfTable, RulesRead, winner_of};
 use crate::matching::rule_matches;
 use crate::table::AT_ITEMS;
 
-#[derive(Drop)]
+#[derive(Clone, Copy)]
 pub enum WinnerFound {
     Rule(usize),
     Nothing,

@@ -1,5 +1,7 @@
 // The structure check: does a tree name a type (refusal 30), and in how many steps. Its definitions are in specs/.
 
+#![tactic(auto)]
+
 pub mod checks;
 pub mod declarators;
 pub mod expressions;

@@ -8,7 +8,7 @@ ghost use Rattle.structure.specs.RepresentedMoves.{test_of, type_state_of, type_
 ghost use Rattle.structure.specs.Allowance.{verdict_within};
 
 // `Holds` and `Fails` with the steps that are left; `Spent`: the allowance did not last.
-#[derive(Drop)]
+#[derive(Clone, Copy)]
 pub enum Verdict {
     Holds(usize),
     Fails(usize),
@@ -16,7 +16,7 @@ pub enum Verdict {
 }
 
 // What is asked of the nodes below a node.
-#[derive(Drop)]
+#[derive(Clone, Copy)]
 pub enum Inner {
     TypeName,
     Expression,
@@ -30,7 +30,7 @@ pub enum Inner {
 }
 
 // The variables of `validate_c_family_type`.
-#[derive(Drop)]
+#[derive(Clone, Copy)]
 pub struct TypeLoop {
     pub saw_type_word: bool,
     pub declarator_started: bool,
@@ -38,14 +38,14 @@ pub struct TypeLoop {
 }
 
 // The variables of `validate_abstract_declarator`.
-#[derive(Drop)]
+#[derive(Clone, Copy)]
 pub struct DeclaratorLoop {
     pub saw_operator: bool,
     pub saw_reference: bool,
 }
 
 // The variables of `validate_expression`.
-#[derive(Drop)]
+#[derive(Clone, Copy)]
 pub struct ExpressionLoop {
     pub expects_operand: bool,
     pub expects_name_after_access: bool,
@@ -53,27 +53,27 @@ pub struct ExpressionLoop {
 }
 
 // The variables of `validate_fortran_type`.
-#[derive(Drop)]
+#[derive(Clone, Copy)]
 pub struct FortranLoop {
     pub saw_word: bool,
     pub saw_selector: bool,
 }
 
-#[derive(Drop)]
+#[derive(Clone, Copy)]
 pub enum TypeMove {
     Stop(bool),
     On(TypeLoop),
     Inside(Inner, TypeLoop),
 }
 
-#[derive(Drop)]
+#[derive(Clone, Copy)]
 pub enum DeclaratorMove {
     Stop(bool),
     On(DeclaratorLoop),
     Inside(Inner, DeclaratorLoop),
 }
 
-#[derive(Drop)]
+#[derive(Clone, Copy)]
 pub enum ExpressionMove {
     Stop(bool),
     On(ExpressionLoop),
@@ -81,7 +81,7 @@ pub enum ExpressionMove {
 }
 
 // Below a node Fortran's types ask of selectors alone.
-#[derive(Drop)]
+#[derive(Clone, Copy)]
 pub enum FortranMove {
     Stop(bool),
     On(FortranLoop),

@@ -1,5 +1,7 @@
 // Text and record numbers, made in a lent buffer. Each function puts its bytes behind the first `at` and returns how many bytes there are then.
 
+#![tactic(auto)]
+
 ghost use Rattle.std.specs.Prelude.{◌≡◌, [], ◌∷◌, ◌+◌, ◌≤◌, ◌<◌, length};
 ghost use Rattle.text.specs.Text.{Appended, decimal, ended, fits, handed, last_digit, last_digits, little_endian_bytes, longest_ended, most_digits};
 

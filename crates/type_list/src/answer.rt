@@ -2,7 +2,7 @@
 
 use rows::answer::TypeNameError;
 
-#[derive(Drop)]
+#[derive(Clone, Copy)]
 pub enum ListAnswer {
     Accepted {
         parts: u32,

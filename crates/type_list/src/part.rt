@@ -10,7 +10,7 @@ use rows::head::Head;
 use type_name::tree::read_checked;
 
 // `length`: how many tokens it has.
-#[derive(Drop)]
+#[derive(Clone, Copy)]
 pub struct Part {
     pub length: usize,
     pub answer: Answer,

@@ -11,7 +11,7 @@ use rows::answer::{Answer, TypeNameError};
 use rows::head::Head;
 
 // The parts taken so far: the next one's first token, how many parts and nodes they are, and what they left of the allowance.
-#[derive(Drop)]
+#[derive(Clone, Copy)]
 pub struct Taken {
     pub from: usize,
     pub parts: u32,
@@ -19,7 +19,7 @@ pub struct Taken {
     pub left: u32,
 }
 
-#[derive(Drop)]
+#[derive(Clone, Copy)]
 pub enum PartStep {
     On(Taken),
     Refused { error: TypeNameError, left: u32 },

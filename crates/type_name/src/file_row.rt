@@ -9,7 +9,7 @@ use rows::format::current;
 use rows::head::{FileHead, HEAD_LENGTH, Head, read_head};
 use rows::row::{MOST_TOKENS, RowRead, read_row};
 
-#[derive(Drop)]
+#[derive(Clone, Copy)]
 pub enum FileRow {
     Row { head: Head, count: usize },
     Refused(TypeNameError),

@@ -12,7 +12,7 @@ use rows::kinds::{DOT, IDENTIFIER};
 use rows::word_numbers::{NO_WORD, exactly};
 
 // `next`: where the nodes after the node begin.
-#[derive(Drop)]
+#[derive(Clone, Copy)]
 pub enum Lookup {
     Node {
         shape: u8,

@@ -29,7 +29,7 @@ use rows::languages::{C, CPP};
 use rows::word_numbers::{BIT_INT, NO_WORD};
 
 // What was seen besides the words that are counted.
-#[derive(Drop)]
+#[derive(Clone, Copy)]
 pub struct SpecifierFlags {
     pub saw_named_type: bool,
     pub saw_elaborated: bool,
@@ -45,7 +45,7 @@ const NO_FLAGS: SpecifierFlags = SpecifierFlags {
 };
 
 // `Count`: go on, with the word seen once more. A move does not hold the counts, since an enum can hold no array.
-#[derive(Drop)]
+#[derive(Clone, Copy)]
 pub enum SpecifierMove {
     Stop(bool),
     On(SpecifierFlags),

@@ -1,0 +1,8 @@
+-- `current` meets its contract. Assumes nothing.
+use mathlib.Core.Path.{refl}
+use borrow.Author.Rules.{rules}
+use borrow.Author.Rules.{rules}
+use Rattle.rows.proofs.format.current.Goals as goal
+
+pub returns : goal.returns
+returns c = rw (c.archive_standards.ensures, c.newer_standards.ensures) refl

@@ -1,0 +1,18 @@
+-- `all_fit` meets its contract. The loop's invariant: what is passed fits, and what is left decides. Assumes nothing.
+use Prim.Native.Nat.{◌≤◌, ◌-◌}
+use mathlib.Core.Path.{◌≡◌, refl}
+use mathlib.Core.Bool.{◌&&◌}
+use native.Mathlib.Omega.{arith}
+use lib.ListN.{length, drop}
+use Rattle.rows.specs.Records.{in_range}
+use Rattle.rows.specs.Laws.Tokens.{one_more, no_more}
+use Rattle.rows.proofs.token.all_fit.Goals as goal
+
+pub loop-i-init : goal.loop-i-init
+loop-i-init c = (omega arith, refl)
+
+pub loop-i-preserved : goal.loop-i-preserved
+loop-i-preserved c = (omega arith, one_more c.args.word.now c.loop-i.i c.loop-i.fits c.loop-i.invariant.1 (omega arith))
+
+pub returns : goal.returns
+returns c = no_more c.args.word.now c.loop-i.i c.loop-i.fits c.loop-i.invariant.1 (omega arith)

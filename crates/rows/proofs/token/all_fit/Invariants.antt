@@ -1,0 +1,15 @@
+-- `all_fit` meets its contract. The loop's invariant: what is passed fits, and what is left decides. Assumes nothing.
+use Prim.Native.Nat.{◌≤◌, ◌-◌}
+use mathlib.Core.Path.{◌≡◌, refl}
+use mathlib.Core.Bool.{◌&&◌}
+use native.Mathlib.Omega.{arith}
+use lib.ListN.{length, drop}
+use Rattle.rows.specs.Records.{in_range}
+use Rattle.rows.specs.Laws.Tokens.{one_more, no_more}
+use Rattle.rows.proofs.token.all_fit.Given as goal
+
+abbrev pub invariant-loop-i : goal.invariant-loop-i
+invariant-loop-i l = (l.i ≤ length l.word) × ((l.fits && in_range (drop l.i l.word)) ≡ in_range l.word)
+
+abbrev pub decreases-loop-i : goal.decreases-loop-i
+decreases-loop-i l = length l.word - l.i

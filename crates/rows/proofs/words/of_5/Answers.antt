@@ -1,0 +1,36 @@
+-- `of_5` meets its contract. Assumes nothing.
+use mathlib.Core.Path.{◌∙◌}
+use native.Mathlib.Omega.{arith}
+use borrow.Author.Tests.{ne_eqb}
+use Rattle.rows.specs.Words.{known, bytes, lower, number_among}
+use Rattle.rows.specs.Laws.KnownSearch.{kept, none, among_like, no_first, like, found, not_found}
+use borrow.Author.Rules.{rules}
+use Rattle.rows.proofs.words.of_5.Goals as goal
+
+pub returns-then-found-ne-NO_WORD : goal.returns-then-found-ne-NO_WORD
+unfolding number_among kept none known bytes lower
+returns-then-found-ne-NO_WORD c = found c.args.word.now (kept (like 5 99) known) (among_like c.args.word.now 5 99 c.requires.0 (omega arith) (omega arith)) _ c.if_is-found.ensures c.if-found-ne-NO_WORD.true
+
+pub returns-in-95 : goal.returns-in-95
+unfolding number_among kept known bytes lower
+returns-in-95 c = c.if_is.ensures ∙ among_like c.args.word.now 5 95 c.requires.0 (omega arith) (omega arith)
+
+pub returns-in-102 : goal.returns-in-102
+unfolding number_among kept known bytes lower
+returns-in-102 c = c.if_is-in-102.ensures ∙ among_like c.args.word.now 5 102 c.requires.0 (omega arith) (omega arith)
+
+pub returns-in-115 : goal.returns-in-115
+unfolding number_among kept known bytes lower
+returns-in-115 c = c.if_is-in-115.ensures ∙ among_like c.args.word.now 5 115 c.requires.0 (omega arith) (omega arith)
+
+pub returns-else-found-ne-NO_WORD : goal.returns-else-found-ne-NO_WORD
+unfolding number_among kept none known bytes lower
+returns-else-found-ne-NO_WORD c = c.if_is-in-99.ensures ∙ not_found c.args.word.now (kept (like 5 99) known) (among_like c.args.word.now 5 99 c.requires.0 (omega arith) (omega arith)) tt _ c.if_is-found.ensures c.if-found-ne-NO_WORD.false
+
+pub returns-in-117 : goal.returns-in-117
+unfolding number_among kept known bytes lower
+returns-in-117 c = c.if_is-in-117.ensures ∙ among_like c.args.word.now 5 117 c.requires.0 (omega arith) (omega arith)
+
+pub returns-in_default : goal.returns-in_default
+unfolding none known bytes lower
+returns-in_default c = no_first c.args.word.now 5 c.args.first c.requires.0 (omega arith) c.requires.1 (rw (ne_eqb 95 c.args.first (omega arith), ne_eqb 102 c.args.first (omega arith), ne_eqb 115 c.args.first (omega arith), ne_eqb 99 c.args.first (omega arith), ne_eqb 117 c.args.first (omega arith)) tt)
