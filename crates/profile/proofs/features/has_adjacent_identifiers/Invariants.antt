@@ -1,0 +1,16 @@
+-- `has_adjacent_identifiers` meets its contract. Assumes nothing.
+use Prim.Native.Nat.{◌+◌, ◌-◌}
+use mathlib.Core.Bool.{◌&&◌}
+use lib.ListN.{length}
+use native.Mathlib.Omega.{arith}
+use borrow.Author.Rules.{rules}
+use Rattle.rows.specs.Kinds.{Dot, LeftParen, RightParen, Star}
+use Rattle.profile.specs.Profile.{has_adjacent_identifiers, identifier_is}
+use Rattle.profile.specs.Laws.SomeToken.{Looking, looking_start, looking_on, looking_found, looking_end}
+use Rattle.profile.proofs.features.has_adjacent_identifiers.Given as goal
+
+abbrev pub invariant-loop-at : goal.invariant-loop-at
+invariant-loop-at l = Looking l.kinds (λ place. identifier_is l.ignoring l.kinds l.words place l.first && identifier_is l.ignoring l.kinds l.words (place + 1) l.second) l.at
+
+abbrev pub decreases-loop-at : goal.decreases-loop-at
+decreases-loop-at l = length l.kinds - l.at

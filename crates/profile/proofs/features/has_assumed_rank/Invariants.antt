@@ -1,0 +1,16 @@
+-- `has_assumed_rank` meets its contract. Assumes nothing.
+use Prim.Native.Nat.{◌+◌, ◌-◌}
+use mathlib.Core.Bool.{◌&&◌}
+use lib.ListN.{length}
+use native.Mathlib.Omega.{arith}
+use borrow.Author.Rules.{rules}
+use Rattle.rows.specs.Kinds.{Dot, LeftParen, RightParen, Star}
+use Rattle.profile.specs.Profile.{has_assumed_rank, kind_is}
+use Rattle.profile.specs.Laws.SomeToken.{Looking, looking_start, looking_on, looking_found, looking_end}
+use Rattle.profile.proofs.features.has_assumed_rank.Given as goal
+
+abbrev pub invariant-loop-at : goal.invariant-loop-at
+invariant-loop-at l = Looking l.kinds (λ place. kind_is l.kinds place LeftParen && kind_is l.kinds (place + 1) Dot && kind_is l.kinds (place + 2) Dot && kind_is l.kinds (place + 3) RightParen) l.at
+
+abbrev pub decreases-loop-at : goal.decreases-loop-at
+decreases-loop-at l = length l.kinds - l.at

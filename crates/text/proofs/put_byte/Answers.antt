@@ -1,0 +1,9 @@
+-- `put_byte` meets its contract. Assumes nothing.
+use native.Mathlib.Omega.{arith}
+use borrow.Author.Rules.{rules}
+use Rattle.text.specs.Laws.Appending.{appended_byte}
+use borrow.Author.Rules.{rules}
+use Rattle.text.proofs.put_byte.Goals as goal
+
+pub returns : goal.returns
+returns c = appended_byte _ _ _ (omega arith)

@@ -1,0 +1,16 @@
+-- `put_bytes` meets its contract. Assumes nothing.
+use Prim.Native.Nat.{◌-◌}
+use lib.ListN.{length}
+use native.Mathlib.Omega.{arith}
+use borrow.Author.Rules.{rules}
+use Rattle.text.specs.Laws.Appending.{Copying, copying_start, copying_on, copying_end}
+use Rattle.text.proofs.put_bytes.Goals as goal
+
+pub loop-i-init : goal.loop-i-init
+loop-i-init c = copying_start _ _ _
+
+pub loop-i-preserved : goal.loop-i-preserved
+loop-i-preserved c = copying_on c.loop-i.invariant (omega arith) (omega arith)
+
+pub returns : goal.returns
+returns c = copying_end c.loop-i.invariant (omega arith)
