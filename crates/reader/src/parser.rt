@@ -119,7 +119,7 @@ fn parse_token(tree: &mut [u32], parser: TypeSyntaxParser) -> Reading
 }
 
 // The nodes of the row, or of the group that is open, from the cursor on.
-#[cycle(parse_group_parse_node_parse_template_arguments)]
+#[cycle(parsing)]
 fn parse_group(
     kinds: &[u8],
     cpp: bool,
@@ -181,7 +181,7 @@ fn parse_group(
 }
 
 // The node at the cursor. `after_identifier`: its left neighbour node is an identifier token.
-#[cycle(parse_group_parse_node_parse_template_arguments)]
+#[cycle(parsing)]
 fn parse_node(
     kinds: &[u8],
     cpp: bool,
@@ -278,7 +278,7 @@ fn take_angle_close(kinds: &[u8], parser: TypeSyntaxParser) -> TypeSyntaxParser
 }
 
 // The arguments of a list, from behind its `<` to behind its closer.
-#[cycle(parse_group_parse_node_parse_template_arguments)]
+#[cycle(parsing)]
 fn parse_template_arguments(
     kinds: &[u8],
     cpp: bool,

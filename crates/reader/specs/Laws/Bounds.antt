@@ -132,6 +132,7 @@ module _ (row : List ℕ) where
   top_ends (a_token t p r) = top_ends r
   top_ends (a_group t lim op e r₁ r) = top_ends r
   top_ends (a_list t lim e r₁ r) = top_ends r
+  top_ends (end_group x19 _) = elim x19 [ ]
 
   -- A reading that begins in the row, or at its end, ends so.
   pub within : {inner : ℕ → ℕ} {l : Region} {d n a a' : ℕ} {h h' : Bool} {x : Nodes} → Derivation row inner l d n a h x a' h' → a ≤ length row → a' ≤ length row

@@ -95,6 +95,11 @@ module _ (row : List ℕ) where
   lies (more r e r₁) here = omega (arith, lies r here, spans row r₁)
   lies (more r e r₁) (below u) = omega (arith, lies r u, spans row r₁)
   lies (more r e r₁) (beside u) = omega (arith, lies r₁ u, spans row r)
+  lies (end_row _) x18 = elim x18 [ ]
+  lies (end_group _ _) x20 = elim x20 [ ]
+  lies (end_argument _) x20 = elim x20 [ ]
+  lies (a_token t p r) (below u) = elim u [ ]
+  lies (last r c) (beside u) = elim u [ ]
 
   -- ---- the matcher along a reading
 

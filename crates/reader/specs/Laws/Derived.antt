@@ -43,12 +43,14 @@ module _ (row : List ℕ) where
   stopped (a_token t p r) = stopped r
   stopped (a_group t lim op e r₁ r) = stopped r
   stopped (a_list t lim e r₁ r) = stopped r
+  stopped (end_group x19 _) = elim x19 [ ]
 
   -- No list is read from half a `>>` on.
   begins : {d n a a' : ℕ} {h' : Bool} {x : Nodes} → Read list d n a true x a' h' → ⊥
   begins (a_token t p r) = t
   begins (a_group t lim op e r₁ r) = t
   begins (a_list t lim e r₁ r) = t
+  begins (end_group x18 _) = elim x18 [ ]
 
   -- A reading is sound if what it accepts is derived.
   abbrev pub Sound : Region → (d n a : ℕ) (h : Bool) → Got → Type 0

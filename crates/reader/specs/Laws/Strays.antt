@@ -185,6 +185,11 @@ module _ (row : List ℕ) where
   plain (last r c) (below u) = plain r u
   plain (more r e r₁) (below u) = plain r u
   plain (more r e r₁) (beside u) = plain r₁ u
+  plain (end_row _) x18 = elim x18 [ ]
+  plain (end_group _ _) x20 = elim x20 [ ]
+  plain (end_argument _) x20 = elim x20 [ ]
+  plain (a_token t p r) (below u) = elim u [ ]
+  plain (last r c) (beside u) = elim u [ ]
 
   -- No T of the tree is a bracket.
   abbrev pub NoStray : Nodes → Type 0

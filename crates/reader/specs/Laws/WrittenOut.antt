@@ -121,6 +121,7 @@ module _ (row : List Token) (worded : Worded row) where
   comma_is (a_list t lim e r₁ r) l = absurd t
   comma_is (last r c) l = refl
   comma_is (more r e r₁) l = refl
+  comma_is (end_group x18 _) l = elim x18 [ ]
 
   -- The row from where a level begins is the level written out, its closer, and the row from where it ends: each token replaced by a list, and by
   -- none at `>` and `>>` if the row has a `>>` at all.

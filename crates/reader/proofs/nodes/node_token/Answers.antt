@@ -1,0 +1,11 @@
+-- `node_token` meets its contract. Assumes nothing.
+use mathlib.Core.Path.{refl}
+use native.Mathlib.Omega.{arith}
+use borrow.Author.Rules.{rules}
+use Rattle.reader.specs.Nodes.{token_of}
+use borrow.Author.Rules.{rules}
+use Rattle.reader.proofs.nodes.node_token.Goals as goal
+
+pub returns : goal.returns
+unfolding token_of
+returns c = record { value = c.wide.ensures.value; small = c.wide.ensures.small }
