@@ -21,14 +21,14 @@ first to last = record { first = first; last = last }
 infix 40 ◌is_within◌
 -- The number is of the range: a pair of comparisons.
 unfoldable pub ◌is_within◌ : ℕ → Range → Bool
-k is_Within r = leb r.first k && leb k r.last
+k is_within r = leb r.first k && leb k r.last
 
 infix 40 ◌is_within_one_of◌
 -- "By ranges": the number is of one of them.
 unfoldable pub ◌is_within_one_of◌ : ℕ → List Range → Bool
 unfolding ◌is_within◌
 k is_within_one_of [] = false
-k is_within_one_of (r ∷ rs) = (k is_Within r) || (k is_within_one_of rs)
+k is_within_one_of (r ∷ rs) = (k is_within r) || (k is_within_one_of rs)
 
 -- ---- runs
 

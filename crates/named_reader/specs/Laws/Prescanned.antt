@@ -218,6 +218,7 @@ module _ (named : List Bool) (k at : ℕ) (c : Scan) (s : State) where
           (if b then on (record { frames = outer; nodes = push (node_of o.delimiter) i s.nodes x; steps = s.steps }) else stops MismatchedClosingDelimiter s.steps)
       both true = h
       both false = tt
+  closer_beside d [] (o ∷ held) h = elim h [ ]
 
   role_beside : (r : Role) → Holds c.angle_depth s.frames c.open_brackets → Beside (Scanning.in_role Cpp r k at c) (in_role named r k at s)
   unfolding Scanning.in_role Scanning.past in_role

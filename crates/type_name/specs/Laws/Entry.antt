@@ -31,7 +31,7 @@ use Rattle.reader.specs.Allowance.{steps}
 use Rattle.reader.specs.Derivation.{RowDerived}
 use Rattle.reader.specs.Laws.Derived.{row_derived}
 use Rattle.reader.specs.Laws.Bounds.{two_nodes}
-use Rattle.reader.specs.Laws.Buffer.{holds as in_Buffer}
+use Rattle.reader.specs.Laws.Buffer.{holds as in_buffer}
 use Rattle.type_nodes.specs.Stands.{WordedNodes}
 use Rattle.structure.specs.Said.{Said, holds, fails, after}
 use Rattle.structure.specs.Syntax.{validate_structured_syntax}
@@ -92,7 +92,7 @@ left_within al w e = rw e (left_below al w)
 module _ {kinds tree : List ℕ} {al n m : ℕ} {x : Nodes} (t : TreeIn kinds al x n m tree) where
   pub tree_ready : {words : List ℕ} → length words ≡ length kinds → length kinds ≤ most_tokens → WordedNodes tree kinds words 0 n
   tree_ready w k = record {
-    nodes_stand = record { nodes = x; stands = t.stands; room = in_Buffer x n tree t.counted t.written; few = omega (arith, t.few, k) };
+    nodes_stand = record { nodes = x; stands = t.stands; room = in_buffer x n tree t.counted t.written; few = omega (arith, t.few, k) };
     worded = w;
   }
 

@@ -36,6 +36,6 @@ unfolding ◌is_one_of◌
 chain k = chain_of (eqb k) (λ l. k is_one_of l) refl (λ a l. refl)
 
 -- `(a <= k) & (k <= b) | (c <= k) & (k <= d) ..`
-pub range_chain : (k : ℕ) (rs : List Range) → tests (λ r. k is_Within r) rs ≡ (k is_within_one_of rs)
+pub range_chain : (k : ℕ) (rs : List Range) → tests (λ r. k is_within r) rs ≡ (k is_within_one_of rs)
 unfolding ◌is_within_one_of◌
-range_chain k = chain_of (λ r. k is_Within r) (λ rs. k is_within_one_of rs) refl (λ r rs. refl)
+range_chain k = chain_of (λ r. k is_within r) (λ rs. k is_within_one_of rs) refl (λ r rs. refl)

@@ -26,15 +26,15 @@ runs_alike f g (suc n) h = rw (runs_alike f g n (λ k p. h k (omega arith)), beg
 -- ---- a set and a range more
 
 module _ (r : Range) (k : ℕ) where
-  first_le : (k is_Within r) ≡ true → r.first ≤ k
+  first_le : (k is_within r) ≡ true → r.first ≤ k
   unfolding ◌is_within◌
   first_le h = leb-true r.first k (and_left (leb r.first k) (leb k r.last) h)
 
-  le_last : (k is_Within r) ≡ true → k ≤ r.last
+  le_last : (k is_within r) ≡ true → k ≤ r.last
   unfolding ◌is_within◌
   le_last h = leb-true k r.last (and_right (leb r.first k) (leb k r.last) h)
 
-  before_first : (k is_Within r) ≡ false → k ≤ r.last → k < r.first
+  before_first : (k is_within r) ≡ false → k ≤ r.last → k < r.first
   unfolding ◌is_within◌
   before_first h p =
       let not_from : (leb r.first k && true) ≡ false = rw (le-leb k r.last p) at h in
@@ -42,19 +42,19 @@ module _ (r : Range) (k : ℕ) where
 
 module _ (r : Range) (f : ℕ → Bool) where
   abbrev with_range : ℕ → Bool
-  with_range k = (k is_Within r) || f k
+  with_range k = (k is_within r) || f k
 
   -- A run of the set with the range that begins where none of the set's does, begins where the range does.
   new_run : (n : ℕ) → begins_run with_range n ≡ true → begins_run f n ≡ false → n ≡ r.first
   unfolding begins_run
-  new_run zero h e = omega (arith, first_le r 0 (or_left (0 is_Within r) (f 0) h e))
+  new_run zero h e = omega (arith, first_le r 0 (or_left (0 is_within r) (f 0) h e))
   new_run (suc n) h e =
       let neither : with_range n ≡ false = not-true (with_range n) (and_right (with_range (suc n)) (not (with_range n)) h) in
-      let not_f : f n ≡ false = neither_right (n is_Within r) (f n) neither in
+      let not_f : f n ≡ false = neither_right (n is_within r) (f n) neither in
       let no_next : (f (suc n) && true) ≡ false = rw not_f at e in
       let either : with_range (suc n) ≡ true = and_left (with_range (suc n)) (not (with_range n)) h in
-      let within : (suc n is_Within r) ≡ true = or_left (suc n is_Within r) (f (suc n)) either (sym (and_true (f (suc n))) ∙ no_next) in
-      omega (arith, first_le r (suc n) within, before_first r n (neither_left (n is_Within r) (f n) neither) (omega (arith, le_last r (suc n) within)))
+      let within : (suc n is_within r) ≡ true = or_left (suc n is_within r) (f (suc n)) either (sym (and_true (f (suc n))) ∙ no_next) in
+      omega (arith, first_le r (suc n) within, before_first r n (neither_left (n is_within r) (f n) neither) (omega (arith, le_last r (suc n) within)))
 
   -- Up to the range's first number there is no run more, after it at most one.
   abbrev Few : (n more runs_of_f : ℕ) → Type 0

@@ -1,0 +1,15 @@
+-- `how_many` meets its contract. Assumes nothing.
+use Prim.Native.Nat.{◌+◌, ◌-◌, ◌≤◌}
+use mathlib.Core.Path.{◌≡◌, refl, sym, ◌∙◌}
+use native.Mathlib.Omega.{arith}
+use borrow.Author.Rules.{rules}
+use lib.ListN.{length, drop}
+use Rattle.type_nodes.specs.Combination.{how_many}
+use Rattle.type_nodes.specs.Laws.Counts.{all_left, one_met, one_not_met, none_left}
+use Rattle.type_nodes.proofs.combination.how_many.Given as goal
+
+abbrev pub invariant-loop-i : goal.invariant-loop-i
+invariant-loop-i l = (l.i ≤ length l.words) × (l.met ≤ l.i) × (l.met + how_many (drop l.i l.words) l.seen ≡ how_many l.words l.seen)
+
+abbrev pub decreases-loop-i : goal.decreases-loop-i
+decreases-loop-i l = length l.words - l.i

@@ -1,0 +1,26 @@
+-- `validate_c_builtin_combination` meets its contract. Assumes nothing.
+use mathlib.Core.Path.{refl}
+use native.Mathlib.Omega.{arith}
+use borrow.Author.Rules.{rules}
+use Rattle.type_nodes.specs.Sets.{builtin_type_words, scalar_bases}
+use Rattle.type_nodes.specs.Combination.{builtin_words, validate_c_builtin_combination}
+use Rattle.type_nodes.specs.Laws.Bounds.{all_below}
+use Rattle.type_nodes.specs.Laws.Counts.{counted}
+use borrow.Author.Rules.{rules}
+use Rattle.type_nodes.proofs.combination.validate_c_builtin_combination.Goals as goal
+
+pub too_often-requires : goal.too_often-requires
+unfolding builtin_type_words all_below
+too_often-requires c = counted builtin_type_words refl
+
+pub how_many-requires : goal.how_many-requires
+unfolding scalar_bases all_below
+how_many-requires c = counted scalar_bases refl
+
+pub how_many-requires-2 : goal.how_many-requires-2
+unfolding builtin_type_words all_below
+how_many-requires-2 c = counted builtin_type_words refl
+
+pub returns : goal.returns
+unfolding validate_c_builtin_combination builtin_words builtin_type_words scalar_bases
+returns c = simp (c.too_often.ensures, c.how_many.ensures, c.how_many-2.ensures, c.has-short.ensures, c.has-long.ensures, c.has-signed.ensures, c.has-unsigned.ensures, c.has.ensures, c.has-2.ensures, c.has-3.ensures, c.has-4.ensures, c.times.ensures)

@@ -1,0 +1,8 @@
+-- `is_elaborated_word` meets its contract. Assumes nothing.
+use Rattle.type_nodes.specs.Sets.{elaborated_words}
+use Rattle.type_nodes.specs.Laws.Chains.{tests, tests_after, chain}
+use Rattle.type_nodes.proofs.sets.is_elaborated_word.Goals as goal
+
+pub returns : goal.returns
+unfolding elaborated_words tests tests_after
+returns c = chain c.args.word elaborated_words

@@ -1,0 +1,11 @@
+-- `count_if` meets its contract. Assumes nothing.
+use Rattle.type_nodes.specs.Moves.{on_if}
+use Rattle.type_nodes.proofs.specifiers.count_if.Goals as goal
+
+pub returns-then-ok : goal.returns-then-ok
+unfolding on_if
+returns-then-ok c = λ seen. record { is = simp c.if-ok.true; known = c.requires }
+
+pub returns : goal.returns
+unfolding on_if
+returns c = λ seen. record { is = simp c.if-ok.false; known = tt }
