@@ -25,7 +25,7 @@ use type_nodes::shapes::NO_NODE;
 use type_nodes::specifiers::validate_c_decl_specifiers;
 use type_nodes::split_on_commas::{element_end, elements_are_full};
 
-#[cycle(arguments_either_parameter_test_validate_abstract_declarator_validate_c_family_type_validate_cpp_template_argument_validate_expression_validate_parameter_type_list)]
+#[cycle(validation)]
 pub fn validate_c_family_type(
     language: u8,
     tree: &[u32],
@@ -112,7 +112,7 @@ pub fn validate_c_family_type(
     plain(st.saw_type_word, left)
 }
 
-#[cycle(arguments_either_parameter_test_validate_abstract_declarator_validate_c_family_type_validate_cpp_template_argument_validate_expression_validate_parameter_type_list)]
+#[cycle(validation)]
 fn validate_abstract_declarator(
     language: u8,
     tree: &[u32],
@@ -181,7 +181,7 @@ fn validate_abstract_declarator(
     plain(st.saw_operator, left)
 }
 
-#[cycle(arguments_either_parameter_test_validate_abstract_declarator_validate_c_family_type_validate_cpp_template_argument_validate_expression_validate_parameter_type_list)]
+#[cycle(validation)]
 pub fn validate_expression(
     language: u8,
     tree: &[u32],
@@ -228,7 +228,7 @@ pub fn validate_expression(
 }
 
 // What is asked of the nodes below a node.
-#[cycle(arguments_either_parameter_test_validate_abstract_declarator_validate_c_family_type_validate_cpp_template_argument_validate_expression_validate_parameter_type_list)]
+#[cycle(validation)]
 fn test(
     language: u8,
     tree: &[u32],
@@ -290,7 +290,7 @@ fn test(
 }
 
 // A type, or else an expression; the steps of the first try stay counted.
-#[cycle(arguments_either_parameter_test_validate_abstract_declarator_validate_c_family_type_validate_cpp_template_argument_validate_expression_validate_parameter_type_list)]
+#[cycle(validation)]
 fn either(
     language: u8,
     tree: &[u32],
@@ -310,7 +310,7 @@ fn either(
     validate_expression(language, tree, kinds, words, from, to, steps)
 }
 
-#[cycle(arguments_either_parameter_test_validate_abstract_declarator_validate_c_family_type_validate_cpp_template_argument_validate_expression_validate_parameter_type_list)]
+#[cycle(validation)]
 fn validate_cpp_template_argument(
     language: u8,
     tree: &[u32],
@@ -330,7 +330,7 @@ fn validate_cpp_template_argument(
 }
 
 // The arguments below an L.
-#[cycle(arguments_either_parameter_test_validate_abstract_declarator_validate_c_family_type_validate_cpp_template_argument_validate_expression_validate_parameter_type_list)]
+#[cycle(validation)]
 fn arguments(
     language: u8,
     tree: &[u32],
@@ -357,7 +357,7 @@ fn arguments(
     Verdict::Holds(left)
 }
 
-#[cycle(arguments_either_parameter_test_validate_abstract_declarator_validate_c_family_type_validate_cpp_template_argument_validate_expression_validate_parameter_type_list)]
+#[cycle(validation)]
 fn parameter(
     language: u8,
     tree: &[u32],
@@ -376,7 +376,7 @@ fn parameter(
     validate_c_family_type(language, tree, kinds, words, from, to, allowed)
 }
 
-#[cycle(arguments_either_parameter_test_validate_abstract_declarator_validate_c_family_type_validate_cpp_template_argument_validate_expression_validate_parameter_type_list)]
+#[cycle(validation)]
 fn validate_parameter_type_list(
     language: u8,
     tree: &[u32],

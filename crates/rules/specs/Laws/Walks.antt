@@ -34,6 +34,7 @@ module _ {rs : List Rule} where
   pub reported_overlaps : {e l i j : ℕ} {ps : List Places} → Walk rs e l ps → Reported i j ps → Pair rs i j × After e l i j
   reported_overlaps (goes f w) (here p q) = same_places p q f.pair f.after
   reported_overlaps (goes f w) (there r) = let u = reported_overlaps w r in (u.0, after_trans f.after u.1)
+  reported_overlaps (ends _) x6 = elim x6 [ ]
 
   -- every pair that overlaps and comes after it is reported.
   pub overlaps_reported : {e l i j : ℕ} {ps : List Places} → Walk rs e l ps → Pair rs i j → After e l i j → Reported i j ps

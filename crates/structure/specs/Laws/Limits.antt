@@ -44,6 +44,19 @@ module _ (tag : Verdict → ℕ) where
   not_fails z (Holds l) o = record { settles = λ f. refl }
   not_fails z Spent o = record { settles = λ f. refl }
 
+-- Code that looks for one case by `let .. else` knows that the value is not that case.
+pub stops_unless_holds : (v : Verdict) → ((l : ℕ) → v ≡ Holds l → ⊥) → Stops v
+unfolding on_holds
+stops_unless_holds (Holds l) o = absurd (o l refl)
+stops_unless_holds (Fails l) o = record { stops = λ f. refl }
+stops_unless_holds Spent o = record { stops = λ f. refl }
+
+pub settles_unless_fails : (v : Verdict) → ((l : ℕ) → v ≡ Fails l → ⊥) → Settles v
+unfolding on_fails
+settles_unless_fails (Fails l) o = absurd (o l refl)
+settles_unless_fails (Holds l) o = record { settles = λ f. refl }
+settles_unless_fails Spent o = record { settles = λ f. refl }
+
 pub limited_after : (left m : ℕ) (s : Said) → verdict_within left (after m s) ≡ if leb m left then verdict_within (left - m) s else Spent
 unfolding verdict_within after
 limited_after left m (holds n) =

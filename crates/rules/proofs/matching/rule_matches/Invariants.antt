@@ -1,0 +1,13 @@
+-- `rule_matches` meets its contract. The loop's invariant: the items left and the nodes left decide. Assumes nothing.
+use Prim.Native.Nat.{◌-◌}
+use native.Mathlib.Omega.{arith}
+use mathlib.Core.Path.{sym, ◌∙◌}
+use borrow.Author.Tests.{not-true, not-false}
+use Rattle.rules.specs.Laws.MatchLoop.{MatchLoop, match_begins, match_nodes, match_rest, match_ends, match_item, match_no_node, match_misfit, match_again, match_further}
+use Rattle.rules.proofs.matching.rule_matches.Given as goal
+
+abbrev pub invariant-loop-end : goal.invariant-loop-end
+invariant-loop-end l = MatchLoop l.table l.end l.begin l.file l.kinds l.places l.tree l.nodes l.item l.at
+
+abbrev pub decreases-loop-end : goal.decreases-loop-end
+decreases-loop-end l = l.end - l.item

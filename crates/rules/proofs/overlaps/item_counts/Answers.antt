@@ -1,0 +1,12 @@
+-- `item_counts` meets its contract. Assumes nothing.
+use native.Mathlib.Omega.{arith}
+use mathlib.Core.Path.{refl, sym}
+use borrow.Author.Tests.{le-ltb, lt-ltb}
+use borrow.Author.Rules.{rules}
+use Rattle.rules.proofs.overlaps.item_counts.Goals as goal
+
+pub returns-then-end-at : goal.returns-then-end-at
+returns-then-end-at c = sym (rw (le-ltb _ _ c.if-end-at.true) refl)
+
+pub returns : goal.returns
+returns c = sym (rw (lt-ltb _ _ c.if-end-at.false) refl)

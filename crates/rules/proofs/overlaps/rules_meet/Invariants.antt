@@ -1,0 +1,13 @@
+-- `rules_meet` meets its contract. The loop's invariant: the items left decide. Assumes nothing.
+use Prim.Native.Nat.{◌-◌}
+use native.Mathlib.Omega.{arith}
+use mathlib.Core.Path.{sym, ◌∙◌}
+use borrow.Author.Tests.{not-true, not-false}
+use Rattle.rules.specs.Laws.Meeting.{MeetLoop, meet_begins, first_rest, first_ends, second_ends, some_first, some_second, disagree, meet_again, meet_further}
+use Rattle.rules.proofs.overlaps.rules_meet.Given as goal
+
+abbrev pub invariant-loop-first : goal.invariant-loop-first
+invariant-loop-first l = MeetLoop l.table l.first l.first_end l.second l.second_end l.x l.y
+
+abbrev pub decreases-loop-first : goal.decreases-loop-first
+decreases-loop-first l = l.first_end - l.x

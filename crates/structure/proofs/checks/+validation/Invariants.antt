@@ -1,0 +1,82 @@
+-- The proof of the checks that call one another. The measure is eight for each node of the range, and a rank: a check of the nodes below has fewer
+-- nodes, and one of the same nodes a lower rank.
+-- Assumes nothing.
+use Prim.Native.Nat.{◌+◌, ◌*◌, ◌-◌, ◌≤◌}
+use mathlib.Core.Path.{◌≡◌, refl, sym, ◌∙◌}
+use native.Mathlib.Omega.{arith}
+use borrow.Author.Rules.{rules}
+use borrow.Author.Tests.{ne_eqb, not-true, not-false}
+use denote.Enum.Declared.{tag_of}
+use Rattle.structure.specs.contracts.moves.Verdict.{the_type}
+use Rattle.type_nodes.specs.Moves.{arguments}
+use Rattle.structure.specs.Declarators.{type_end, declarator_end}
+use Rattle.structure.specs.Checks.{checked, test, validate_cpp_template_argument, validate_parameter, validate_parameter_type_list}
+use Rattle.structure.specs.Laws.Limits.{not_holds, not_fails, stops_unless_holds, settles_unless_fails, limited_no}
+use Rattle.structure.specs.Laws.Walks.{walk_start, walk_formed, walk_stops, walk_holds, walk_further, walk_fits, walk_below, walk_after}
+use Rattle.structure.specs.Laws.Loops.{entry_spent, entry, head_fails, head_holds, run_start, run_end, run_stop, run_on, run_stops, run_inside}
+use Rattle.structure.specs.Laws.Checks.{InType, InDeclarator, InExpression, type_entry, declarator_entry, expression_entry, word_type, no_word_before, type_moved}
+use Rattle.structure.specs.Laws.Checks.{at_word, at_wrong_word, at_scope, at_list}
+use Rattle.structure.specs.Laws.Checks.{declarator_moved, expression_moved, waits_on, waits_inside}
+use Rattle.structure.specs.Laws.Inside.{empty_of, full_of, no_node, some_node, no_bound, bound_of, by_name, either_held, either_else, both_failed, both_then}
+use Rattle.structure.specs.Laws.Inside.{first_settles, then_second, told, inside_declarator, group_declarator, group_parameters, parameters_start}
+use Rattle.structure.specs.Laws.Every.{InElements, InArguments, elements_past, elements_fit, elements_ready, elements_comma, elements_turn, elements_last, elements_next, arguments_end}
+use Rattle.structure.specs.Laws.Every.{arguments_turn}
+use Prim.Native.Nat.{ℕ, ◌<◌}
+use Rattle.structure.proofs.checks.+validation.Given as goal
+
+abbrev pub decreases-arguments : goal.decreases-arguments
+decreases-arguments l = 8 * (l.to - l.from) + 3
+
+abbrev pub decreases-either : goal.decreases-either
+decreases-either l = 8 * (l.to - l.from) + 1
+
+abbrev pub decreases-parameter : goal.decreases-parameter
+decreases-parameter l = 8 * (l.to - l.from) + 1
+
+abbrev pub decreases-test : goal.decreases-test
+decreases-test l = 8 * (l.to - l.from) + 5
+
+abbrev pub decreases-validate_abstract_declarator : goal.decreases-validate_abstract_declarator
+decreases-validate_abstract_declarator l = 8 * (l.to - l.from)
+
+abbrev pub decreases-validate_c_family_type : goal.decreases-validate_c_family_type
+decreases-validate_c_family_type l = 8 * (l.to - l.from)
+
+abbrev pub decreases-validate_cpp_template_argument : goal.decreases-validate_cpp_template_argument
+decreases-validate_cpp_template_argument l = 8 * (l.to - l.from) + 2
+
+abbrev pub decreases-validate_expression : goal.decreases-validate_expression
+decreases-validate_expression l = 8 * (l.to - l.from)
+
+abbrev pub decreases-validate_parameter_type_list : goal.decreases-validate_parameter_type_list
+decreases-validate_parameter_type_list l = 8 * (l.to - l.from) + 3
+
+abbrev pub invariant-arguments-loop-at : goal.invariant-arguments-loop-at
+invariant-arguments-loop-at l = InArguments (validate_cpp_template_argument l.language l.kinds l.words (checked l.language l.kinds l.words)) (test l.language l.kinds l.words (checked l.language l.kinds l.words) arguments) l.tree l.kinds l.from l.to l.allowed l.left l.at
+
+abbrev pub decreases-arguments-loop-at : goal.decreases-arguments-loop-at
+decreases-arguments-loop-at l = l.to - l.at
+
+abbrev pub invariant-validate_abstract_declarator-loop-at : goal.invariant-validate_abstract_declarator-loop-at
+invariant-validate_abstract_declarator-loop-at l = InDeclarator l.language l.tree l.kinds l.words l.from l.to l.allowed l.left l.st l.before l.at
+
+abbrev pub decreases-validate_abstract_declarator-loop-at : goal.decreases-validate_abstract_declarator-loop-at
+decreases-validate_abstract_declarator-loop-at l = l.to - l.at
+
+abbrev pub invariant-validate_c_family_type-loop-at : goal.invariant-validate_c_family_type-loop-at
+invariant-validate_c_family_type-loop-at l = InType l.language l.tree l.kinds l.words l.from l.to l.allowed l.left l.st l.before l.word_before l.at
+
+abbrev pub decreases-validate_c_family_type-loop-at : goal.decreases-validate_c_family_type-loop-at
+decreases-validate_c_family_type-loop-at l = l.to - l.at
+
+abbrev pub invariant-validate_expression-loop-at : goal.invariant-validate_expression-loop-at
+invariant-validate_expression-loop-at l = InExpression l.language l.tree l.kinds l.words l.from l.to l.allowed l.left l.st l.at
+
+abbrev pub decreases-validate_expression-loop-at : goal.decreases-validate_expression-loop-at
+decreases-validate_expression-loop-at l = l.to - l.at
+
+abbrev pub invariant-validate_parameter_type_list-loop-steps : goal.invariant-validate_parameter_type_list-loop-steps
+invariant-validate_parameter_type_list-loop-steps l = InElements (validate_parameter l.language l.kinds l.words (checked l.language l.kinds l.words)) (validate_parameter_type_list l.language l.kinds l.words (checked l.language l.kinds l.words)) l.tree l.kinds l.from l.to l.allowed l.left l.at
+
+abbrev pub decreases-validate_parameter_type_list-loop-steps : goal.decreases-validate_parameter_type_list-loop-steps
+decreases-validate_parameter_type_list-loop-steps l = l.to - l.at

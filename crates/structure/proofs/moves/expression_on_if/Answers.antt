@@ -1,0 +1,12 @@
+-- `expression_on_if` meets its contract. Assumes nothing.
+use native.Mathlib.Omega.{arith}
+use Rattle.type_nodes.specs.Moves.{on_if}
+use Rattle.structure.proofs.moves.expression_on_if.Goals as goal
+
+pub returns-then-ok : goal.returns-then-ok
+unfolding on_if
+returns-then-ok c = record { is = simp c.if-ok.true; waits = omega arith }
+
+pub returns : goal.returns
+unfolding on_if
+returns c = record { is = simp c.if-ok.false; waits = tt }
