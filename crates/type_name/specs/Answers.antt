@@ -34,9 +34,9 @@ on_tree (accepted x m) next = next x m
 on_tree (refused e m) next = refused e m
 
 -- A fault of the whole row is always a refusal: a list that fails only fails inside a try.
-unfoldable pub refusal_of : Fault → TypeNameError
-refusal_of (refusal e) = e
-refusal_of no_list = UnexpectedTokenAfterTypeName
+unfoldable pub refusal_of_fault : Fault → TypeNameError
+refusal_of_fault (refusal e) = e
+refusal_of_fault no_list = UnexpectedTokenAfterTypeName
 
 -- Not "23 tokens or half a `>>` left over".
 unfoldable pub whole_row : (kinds : List ℕ) → (at : ℕ) (half : Bool) → Bool
@@ -44,8 +44,8 @@ whole_row kinds at half = eqb at (length kinds) && not half
 
 -- The place "Reading: 20 .., 21 .., 22 .., 23 ..".
 unfoldable pub tree_of : (kinds : List ℕ) → Got → RowAnswer
-unfolding refusal_of whole_row
-tree_of kinds (bad e m) = refused (refusal_of e) m
+unfolding refusal_of_fault whole_row
+tree_of kinds (bad e m) = refused (refusal_of_fault e) m
 tree_of kinds (got x at half m) = if whole_row kinds at half then accepted x m else refused UnexpectedTokenAfterTypeName m
 
 -- The places "Prescan" and "Row end", and then what the reading came to. "Steps are 0 up to 18."

@@ -12,7 +12,7 @@ use Rattle.rows.specs.declared.answer.Answer.{Answer}
 use Rattle.rows.specs.declared.answer.Answer.TheVariants.{Accepted, Refused}
 use Rattle.prescan.specs.Prescan.{prescan}
 use Rattle.reader.specs.Nodes.{count, records}
-use Rattle.reader.specs.Reading.{reading, kind_at}
+use Rattle.reader.specs.Reading.{reading, kind_at as kind_of_row_at}
 use Rattle.reader.specs.Written.{Token}
 use Rattle.type_name.specs.Answers.{RowAnswer, accepted, refused, on_tree, unlimited, answer, final_buffer}
 
@@ -45,7 +45,7 @@ words_in row = map (λ (t : Token). word_number t.word) row
 
 -- `listing`'s first line for a row by its kinds and word numbers. Whoever unfolds this computes with all the definitions.
 unfoldable pub first_line_by_numbers : (language standard flag : ℕ) → (kinds words : List ℕ) → FirstLine
-unfolding first_line records prescan reading kind_at on_tree unlimited word_number validate_structured_syntax missing_feature
+unfolding first_line records prescan reading kind_of_row_at on_tree unlimited word_number validate_structured_syntax missing_feature
 first_line_by_numbers language standard flag kinds words = first_line (unlimited language standard flag kinds words)
 
 -- `listing`'s first line for a row of tokens.

@@ -25,7 +25,7 @@ use Rattle.named_reader.specs.NamedReading.{named_reading}
 use Rattle.named_reader.specs.Laws.SameNames.{same_reading}
 use Rattle.named_reader.specs.Laws.NoNames.{no_name_followed}
 use Rattle.type_name.specs.FileRow.{HeadRow, Outcome, untouched, passes, on_pass, file_row, entry_outcome}
-use Rattle.type_name.specs.Answers.{RowAnswer, refusal_of, whole_row, tree_of, after_prescan, tree_checked, unlimited, answer_of, row_answer, outcome}
+use Rattle.type_name.specs.Answers.{RowAnswer, refusal_of_fault, whole_row, tree_of, after_prescan, tree_checked, unlimited, answer_of, row_answer, outcome}
 use Rattle.type_name.specs.Laws.Fields.{bounds}
 use Rattle.type_name.specs.Laws.Refusals.{Refusals, checked_refusals, limited_refusals, answered_refusals}
 use Rattle.type_name.specs.Laws.FileRow.{Has, Comes, file_comes}
@@ -77,7 +77,7 @@ not_new low high p e b = (λ q. omega (arith, bounds low high e b, p, q), λ q. 
 
 module _ (kinds : List ℕ) where
   old_tree : (g : Got) → Read.Numbered g → Refusals NotNew (tree_of kinds g)
-  unfolding tree_of refusal_of
+  unfolding tree_of refusal_of_fault
   old_tree (bad (refusal e) m) p = not_new 20 22 (omega arith) e p
   old_tree (bad no_list m) p = (λ q. omega (arith, q), λ q. omega (arith, q))
   old_tree (got x at half m) p = by_if (Refusals NotNew) (whole_row kinds at half) (λ _. tt) (λ _. (λ q. omega (arith, q), λ q. omega (arith, q)))

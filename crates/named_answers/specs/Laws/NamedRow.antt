@@ -36,7 +36,7 @@ use Rattle.named_reader.specs.NamedReading.{named_reading}
 use Rattle.named_reader.specs.Laws.Sound.{no_lists, named_derived, read_whole}
 use Rattle.named_reader.specs.Laws.Prescanned.{Refuses, too_deep, alone, empty_or_over, refused_at}
 use Rattle.named_reader.specs.Laws.AsBefore.{as_before}
-use Rattle.type_name.specs.Answers.{RowAnswer, accepted, refused, refusal_of, whole_row, tree_of, after_prescan, row_tree, tree_checked, row_steps, answer_within}
+use Rattle.type_name.specs.Answers.{RowAnswer, accepted, refused, refusal_of_fault, whole_row, tree_of, after_prescan, row_tree, tree_checked, row_steps, answer_within}
 use Rattle.type_name.specs.Laws.RowTokens.{kinds_known}
 use Rattle.type_name.specs.FileRow.{HeadRow}
 use Rattle.type_name.specs.Laws.Fields.{bounds}
@@ -65,7 +65,7 @@ module _ (named : List Bool) (kinds : List ℕ) where
   given_of empty_or_over = (Promises.empty_or_open, omega arith)
 
   tree_given : (s : Scan) → prescan Cpp kinds ≡ passed s → (g : Got) → named_reading named kinds ≡ g → Refusals OfRow (tree_of kinds g)
-  unfolding tree_of refusal_of
+  unfolding tree_of refusal_of_fault
   tree_given s p (got x at half m) q = rw (whole q) tt
   tree_given s p (bad (refusal e) m) q = given_of (refused_at named kinds s p (refusal e) m q).number
   tree_given s p (bad no_list m) q = absurd (refused_at named kinds s p no_list m q)

@@ -45,7 +45,7 @@ use Rattle.profile.specs.Profile.{missing_feature}
 use Rattle.profile.specs.declared.profile.Lack.{Lack}
 use Rattle.profile.specs.declared.profile.Lack.TheVariants.{Nothing, Lacks}
 use Rattle.type_name.specs.FileRow.{passes}
-use Rattle.type_name.specs.Answers.{RowAnswer, accepted, refused, on_tree, refusal_of, whole_row, tree_of, after_prescan, row_tree, structure_of, by_structure, by_profile, tree_checked, row_steps, answer_within, answer_in}
+use Rattle.type_name.specs.Answers.{RowAnswer, accepted, refused, on_tree, refusal_of_fault, whole_row, tree_of, after_prescan, row_tree, structure_of, by_structure, by_profile, tree_checked, row_steps, answer_within, answer_in}
 use Rattle.type_name.specs.EntrySays.{TreeIn, TreeTold, TreeSays, NodesReady, NodesSay, CheckSays, InFront, ReadsRow, profile_answer, verdict_answer, row_checked}
 
 left_of : (al n : ℕ) → n ≤ al → al - (al - n) ≡ n
@@ -287,7 +287,7 @@ module _ (al : ℕ) (kinds : List ℕ) (g : Got) {inner : ℕ → ℕ} (sound : 
   )
 
   refused_told : {e : TypeNameError} {m : ℕ} → (g ≡ bad (refusal e) m) ⊎ LeftOver kinds g e m → tree_of kinds g ≡ refused e m
-  unfolding tree_of refusal_of
+  unfolding tree_of refusal_of_fault
   refused_told c =
       ⊎_elim (λ q. rw q refl) (λ (o : LeftOver kinds g _ _). rw (o.is, o.error, not_at_end kinds o.at o.half o.over) refl) c
 

@@ -1,6 +1,6 @@
 -- The parts of answers, heads and rows: where two are the same, so are their parts.
 -- Assumes nothing.
-use Rattle.std.specs.Prelude.{ℕ, ◌≤◌, ◌≡◌, Bool, true, ◌&&◌, List, T, leb}
+use Rattle.std.specs.Prelude.{ℕ, ◌≤◌, ◌≡◌, Bool, true, false, ◌&&◌, List, T, leb}
 use Rattle.std.proofs.Common.{arith, leb→le, le→leb}
 use Rattle.std.proofs.Math.Facts.{and_yes}
 use Rattle.rows.specs.Records.{RowToken, Row, row}
@@ -47,6 +47,8 @@ wider low high low' high' p q e t =
   where
     both : (a b : Bool) → T a → T b → T (a && b)
     both true true u v = tt
+    both false b u v = elim u [ ]
+    both true false u v = elim v [ ]
 
 -- A file has one row and one head.
 pub one_row : (r : Row) (ts ts' : List RowToken) → r ≡ row ts → r ≡ row ts' → ts ≡ ts'

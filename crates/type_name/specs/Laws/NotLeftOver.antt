@@ -22,7 +22,7 @@ use Rattle.reader.specs.Laws.Tokens.{KindsKnown}
 use Rattle.reader.specs.Laws.Derived.{row_derived}
 use Rattle.reader.specs.Laws.Bounds.{nothing_left}
 use Rattle.reader.specs.Laws.Refusals.{Refuses, too_deep, not_closed, wrong_closer, refuses}
-use Rattle.type_name.specs.Answers.{RowAnswer, refused, refusal_of, whole_row, tree_of, after_prescan, row_tree, unlimited, answer_of, row_answer, outcome, answer}
+use Rattle.type_name.specs.Answers.{RowAnswer, refused, refusal_of_fault, whole_row, tree_of, after_prescan, row_tree, unlimited, answer_of, row_answer, outcome, answer}
 use Rattle.type_name.specs.Laws.Fields.{bounds}
 use Rattle.type_name.specs.Laws.Refusals.{Refusals, checked_refusals, limited_refusals, file_refusals, answered_refusals}
 use Rattle.type_name.specs.Laws.RowTokens.{kinds_known}
@@ -42,8 +42,8 @@ below low high e b p q = omega (arith, bounds low high e b, p, q)
 
 -- ---- place by place
 
-fault_other : {e : Fault} → Refuses e → Other (refusal_of e)
-unfolding refusal_of
+fault_other : {e : Fault} → Refuses e → Other (refusal_of_fault e)
+unfolding refusal_of_fault
 fault_other too_deep q = omega (arith, q)
 fault_other not_closed q = omega (arith, q)
 fault_other wrong_closer q = omega (arith, q)

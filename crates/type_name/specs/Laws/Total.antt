@@ -22,7 +22,7 @@ use Rattle.reader.specs.Reading.{Got, got, bad, Fault, refusal, no_list, reading
 use Rattle.reader.specs.Laws.Numbered.{FaultNumbered, reading_numbered}
 use Rattle.reader.specs.Laws.Numbered as Read
 use Rattle.type_name.specs.FileRow.{HeadRow, Outcome, untouched, passes, on_pass, file_row}
-use Rattle.type_name.specs.Answers.{RowAnswer, accepted, refused, refusal_of, whole_row, tree_of, after_prescan, row_tree, tree_checked, unlimited, answer_within, answer_of, row_answer, outcome, answer_in, answer, final_buffer}
+use Rattle.type_name.specs.Answers.{RowAnswer, accepted, refused, refusal_of_fault, whole_row, tree_of, after_prescan, row_tree, tree_checked, unlimited, answer_within, answer_of, row_answer, outcome, answer_in, answer, final_buffer}
 use Rattle.type_name.specs.Promises.{RefusedBuffer}
 use Rattle.type_name.specs.Laws.Refusals.{Refusals, checked_refusals, limited_refusals, Apart, buffer_of}
 use Rattle.type_name.specs.Laws.Fields.{is_refused, number_in, bounds, wider}
@@ -99,8 +99,8 @@ module _ (low : ℕ) (l : low ≤ 20) where
   limited_placed : (allowance : ℕ) (a : RowAnswer) → UnspentFrom low a → PlacedFrom low (answer_within allowance a)
   limited_placed allowance a p = limited_refusals (λ e. Between low 40 e) (wider 25 25 low 40 (omega (arith, l)) (omega arith) AllowancePassed tt) allowance a (unspent_placed a p)
 
-  fault_unspent : (e : Fault) (m : ℕ) → FaultNumbered e → UnspentFrom low (refused (refusal_of e) m)
-  unfolding refusal_of
+  fault_unspent : (e : Fault) (m : ℕ) → FaultNumbered e → UnspentFrom low (refused (refusal_of_fault e) m)
+  unfolding refusal_of_fault
   fault_unspent (refusal e) m p = inl (wider 20 22 low 23 l (omega arith) e p)
   fault_unspent no_list m p = inl (wider 23 23 low 23 (omega (arith, l)) (omega arith) UnexpectedTokenAfterTypeName tt)
 
