@@ -32,6 +32,7 @@ of_node : {a i : ℕ} {k : NodeKind} {b : Nodes} (x : Nodes) → TokensFrom a x 
 of_node (node k i b x) f here = f.0
 of_node (node k i b x) f (beside u) = of_node x f.2 u
 of_node (node k i b x) f (below u) = of_node b f.1 u
+of_node none f x3 = elim x3 [ ]
 
 module _ (row : List ℕ) where
   closes_on : {d a a' : ℕ} {h h' : Bool} → Closes row d a h a' h' → a ≤ a'
@@ -70,6 +71,7 @@ top_starts row (a_token {x = x} t p r) k = record { others = x; is = refl; later
 top_starts row (a_group t l parens e r s) k = absurd (⊎_elim (λ (q : kind_at row 0 ≡ Identifier). omega (arith, e, q)) (λ (q : kind_at row 0 ≡ Scope). omega (arith, e, q)) k)
 top_starts row (a_group t l brackets e r s) k = absurd (⊎_elim (λ (q : kind_at row 0 ≡ Identifier). omega (arith, e, q)) (λ (q : kind_at row 0 ≡ Scope). omega (arith, e, q)) k)
 top_starts row (a_list t l e r s) k = absurd (⊎_elim (λ (q : kind_at row 0 ≡ Identifier). omega (arith, e, q)) (λ (q : kind_at row 0 ≡ Scope). omega (arith, e, q)) k)
+top_starts row (end_group x19 _) k = elim x19 [ ]
 
 -- ---- a row that passes the prescan starts with an identifier or `::`
 

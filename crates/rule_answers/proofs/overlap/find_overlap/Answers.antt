@@ -1,0 +1,20 @@
+-- `find_overlap` meets its contract. Assumes nothing.
+use Rattle.rule_answers.specs.Laws.Tables.{table_malformed, table_there}
+use Rattle.rule_answers.specs.Laws.Overlaps.{malformed_told, none_further, pair_inside, pair_told}
+use borrow.Author.Rules.{rules}
+use Rattle.rule_answers.proofs.overlap.find_overlap.Goals as goal
+
+pub returns-in_default : goal.returns-in_default
+returns-in_default c = malformed_told (table_malformed c.read_table-read.ensures c.in_default.is)
+
+pub next_pair-found-requires : goal.next_pair-found-requires
+next_pair-found-requires c = (table_there c.read_table-read.ensures c.in-Rules.is, search rules)
+
+pub show_pair-requires : goal.show_pair-requires
+show_pair-requires c = let inside = pair_inside (table_there c.read_table-read.ensures c.in-Rules.is) _ _ _ c.next_pair-found.ensures c.in-Pair.is in (table_there c.read_table-read.ensures c.in-Rules.is, inside.0, inside.1)
+
+pub returns-in-Nothing : goal.returns-in-Nothing
+returns-in-Nothing c = none_further (table_there c.read_table-read.ensures c.in-Rules.is) _ _ _ c.next_pair-found.ensures c.in-Nothing.is
+
+pub returns-in-Pair : goal.returns-in-Pair
+returns-in-Pair c = pair_told (table_there c.read_table-read.ensures c.in-Rules.is) _ _ _ c.next_pair-found.ensures c.in-Pair.is c.show_pair.ensures
