@@ -50,3 +50,4 @@ pub numbers_below : (from : ℕ) (x : Nodes) (n : ℕ) → Memᴰ n (node_number
 unfolding node_numbers count
 numbers_below from (node k i b x) n (Memᴰ.head e) = omega (arith, e)
 numbers_below from (node k i b x) n (Memᴰ.tail m) = omega (arith, numbers_below (from + suc (count b)) x n m)
+numbers_below from none n x'' = elim x'' [ ]

@@ -45,6 +45,7 @@ module _ (kinds : List ℕ) where
         | inl p ↦ absurd p.1
         | inr v ↦ inr (record { token = v.token; stands = below v.stands; before = omega (arith, v.before); identifier = v.identifier })
       ]
+  behind_word none w f u = elim u [ ]
 
   told : (x : Nodes) (n : ℕ) → WordBefore kinds x n → (0 < n) × WordAt kinds (records x) (n - 1)
   unfolding number

@@ -1,0 +1,19 @@
+-- `narrowed_standard` meets its contract. Assumes nothing.
+use mathlib.Core.Path.{refl}
+use borrow.Author.Rules.{rules}
+use borrow.Author.Tests.{ne_eqb}
+use Rattle.convert.specs.Standards.{narrowed_standard}
+use borrow.Author.Rules.{rules}
+use Rattle.convert.proofs.standards.narrowed_standard.Goals as goal
+
+pub returns-then-standard-eq-STANDARD_254 : goal.returns-then-standard-eq-STANDARD_254
+unfolding narrowed_standard
+returns-then-standard-eq-STANDARD_254 c = rw c.if-standard-eq-STANDARD_254.true refl
+
+pub returns-then-standard-eq-STANDARD_255 : goal.returns-then-standard-eq-STANDARD_255
+unfolding narrowed_standard
+returns-then-standard-eq-STANDARD_255 c = rw (c.own_number.ensures, c.meant_standard-meaning.ensures, c.current.ensures, c.if-standard-eq-STANDARD_255.true) refl
+
+pub returns : goal.returns
+unfolding narrowed_standard
+returns c = rw (ne_eqb _ _ c.if-standard-eq-STANDARD_254.false, ne_eqb _ _ c.if-standard-eq-STANDARD_255.false) refl

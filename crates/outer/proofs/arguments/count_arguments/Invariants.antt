@@ -1,0 +1,13 @@
+-- `count_arguments` meets its contract. The loop's invariant: what is left of the list decides. Assumes nothing.
+use Prim.Native.Nat.{◌-◌}
+use mathlib.Core.Path.{refl, sym, ◌∙◌}
+use native.Mathlib.Omega.{arith}
+use borrow.Author.Tests.{not-true, not-false}
+use Rattle.outer.specs.Laws.Walk.{CountLoop, count_stops, count_further, count_again, count_ends}
+use Rattle.outer.proofs.arguments.count_arguments.Given as goal
+
+abbrev pub invariant-loop-at : goal.invariant-loop-at
+invariant-loop-at l = CountLoop l.tree l.end l.at l.found
+
+abbrev pub decreases-loop-at : goal.decreases-loop-at
+decreases-loop-at l = l.end - l.at
