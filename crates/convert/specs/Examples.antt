@@ -1,6 +1,6 @@
 -- Computed examples of this crate's definitions, worked out from document 02 by hand, so that a wrong edit of one is refused here.
 -- Assumes nothing.
-use Rattle.std.specs.Prelude.{ℕ, ◌+◌, ◌≡◌, refl, List, [], ◌∷◌, ◌++◌, map, length, replicate}
+use Rattle.std.specs.Prelude.{ℕ, ◌≡◌, refl, List, [], ◌∷◌, ◌++◌, map, length, replicate}
 use Rattle.rows.specs.Format.{declared, meant, stands_for}
 use Rattle.rows.specs.Records.{little_endian, head, head_formed, head_with, records_from, to_end, tokens_from, after_record, before_tokens, found, well_formed, length_fits, word_fits, word_at, span_start_at, span_end_at, kind_at, length_at, in_range}
 use Rattle.rows.specs.Words.{bytes}

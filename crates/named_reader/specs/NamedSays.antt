@@ -8,7 +8,6 @@ use Rattle.reader.specs.Nodes.{l_node, a_node, number, Nodes, none, count, node_
 use Rattle.reader.specs.Tables.{node_of}
 use Rattle.reader.specs.Reading.{Got, got, bad, refusal}
 use Rattle.reader.specs.declared.parser.Parsed.{Parsed}
-use Rattle.reader.specs.declared.parser.Parsed.TheVariants as Parsed
 use Rattle.named_reader.specs.NamedReading.{Frame, group, list, State, Step, on, stops, push, begin, closed, at_end}
 use Rattle.named_reader.specs.declared.frames.NamedReader.{NamedReader}
 use Rattle.named_reader.specs.declared.frames.NamedStep.{NamedStep}

@@ -3,7 +3,7 @@
 use Rattle.std.specs.Prelude.{ℕ, Bool, true, false, not, ◌&&◌, ◌||◌, List, [], ◌∷◌, map, length, leb, eqb}
 use Rattle.rows.specs.Notation.{if◌then◌else◌}
 use Rattle.rows.specs.Kinds.{Identifier}
-use Rattle.rows.specs.Words.{same_exactly, same_ignoring_case}
+use Rattle.rows.specs.Words.{same_exactly}
 use Rattle.rows.specs.Format.{format}
 use Rattle.rows.specs.Records.{RowToken, Row, refused, row, records_from}
 

@@ -7,7 +7,6 @@ use Rattle.rows.specs.Records.{RowToken, row, found, word_in, records_from, kind
 use Rattle.rows.specs.declared.token.TokenRecord.TheVariants.{Formed}
 use Rattle.names.specs.NameList.{most_names, is_name, listed, malformed, name_list}
 use Rattle.names.specs.declared.name_list.NamesRead.{NamesRead}
-use Rattle.names.specs.declared.name_list.NamesRead.TheVariants as NamesRead
 
 -- How many buckets there are.
 abbrev pub buckets : ℕ

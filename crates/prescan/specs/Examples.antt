@@ -1,11 +1,11 @@
 -- Computed rows of this crate's definitions, so that a wrong edit of one is refused here. The rows and answers are document 01's.
 -- Assumes nothing.
-use Rattle.std.specs.Prelude.{ℕ, ◌≡◌, refl, List, [], ◌∷◌, map}
+use Rattle.std.specs.Prelude.{ℕ, ◌≡◌, refl, List, [], ◌∷◌}
 use Rattle.rows.specs.Languages.{C, Cpp, Fortran}
 use Rattle.rows.specs.Kinds.{Identifier, Integer, LeftParen, RightParen, LeftBracket, RightBracket, Comma, Scope, Star, Ampersand, LogicalAnd, Less, Greater, ShiftRight, End}
-use Rattle.rows.specs.Refusals.{refusal_of, named, plainly, no_token}
+use Rattle.rows.specs.Refusals.{refusal_of, named, plainly}
 use Rattle.rows.specs.declared.answer.Refusal.{Refusal}
-use Rattle.prescan.specs.Matcher.{Pair, Matcher, stopped, going, matcher}
+use Rattle.prescan.specs.Matcher.{stopped, going, matcher}
 use Rattle.prescan.specs.Prescan.{Scanned, passed, refused, prescan}
 
 -- 0 if the row passes, else the refusal.

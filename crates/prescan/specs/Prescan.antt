@@ -1,11 +1,10 @@
 -- The prescan: document 01, "Bracket pairs", and the places "Prescan" and "Row end" of its table: refusals 10 to 18.
 -- Assumes nothing.
-use Rattle.std.specs.Prelude.{ℕ, suc, ◌-◌, Bool, true, false, not, ◌&&◌, ◌||◌, List, [], ◌∷◌, length, get_or, leb, eqb}
+use Rattle.std.specs.Prelude.{ℕ, suc, ◌-◌, Bool, false, not, ◌&&◌, ◌||◌, List, [], ◌∷◌, length, get_or, leb, eqb}
 use Rattle.rows.specs.Notation.{if◌then◌else◌, ◌is_one_of◌}
 use Rattle.rows.specs.Languages.{C, Cpp, Fortran}
 use Rattle.rows.specs.Kinds.{Identifier, Integer, RightParen, RightBracket, Comma, Scope, Star, Ampersand, LogicalAnd, Less, Greater, ShiftRight, End, NoToken}
 use Rattle.rows.specs.Refusals.{no_token}
-use Rattle.rows.specs.declared.answer.Open.{Open}
 use Rattle.rows.specs.declared.answer.Open.TheVariants.{Nothing, Opened}
 use Rattle.rows.specs.declared.answer.Delimiter.{Delimiter}
 use Rattle.rows.specs.declared.answer.TypeNameError.{TypeNameError}

@@ -1,8 +1,8 @@
 -- The code's state of the prescan as the definition's: what its contracts speak of.
 -- Assumes nothing.
-use Rattle.std.specs.Prelude.{ℕ, zero, suc, ◌≤◌, ◌<◌, ◌^◌, ◌≡◌, Bool, List, [], ◌∷◌, length, get_or, eqb}
+use Rattle.std.specs.Prelude.{ℕ, zero, suc, ◌≤◌, ◌<◌, ◌^◌, ◌≡◌, List, [], ◌∷◌, length, get_or, eqb}
 use Rattle.rows.specs.Notation.{if◌then◌else◌}
-use Rattle.rows.specs.Kinds.{LeftParen, NoToken}
+use Rattle.rows.specs.Kinds.{LeftParen}
 use Rattle.rows.specs.declared.answer.Delimiter.{Delimiter}
 use Rattle.rows.specs.declared.answer.Delimiter.TheVariants.{Parenthesis, Bracket}
 use Rattle.prescan.specs.Matcher.{Opener}

@@ -1,6 +1,6 @@
 -- Computed rows of this crate's definitions, so that a wrong edit of one is refused here.
 -- Assumes nothing.
-use Rattle.std.specs.Prelude.{ℕ, ◌+◌, ◌≡◌, refl, List, [], ◌∷◌, map}
+use Rattle.std.specs.Prelude.{ℕ, ◌+◌, ◌≡◌, refl, List, [], ◌∷◌}
 use Rattle.rows.specs.Languages.{C, Cpp, Fortran, C89, C99, C11, C18, C23, Cpp98, Cpp11, Fortran77, Fortran90, Fortran95, Fortran2003, Fortran2008, Fortran2018}
 use Rattle.rows.specs.Kinds.{Identifier, Integer, LeftParen, RightParen, Dot, Star, LogicalAnd, Equal}
 use Rattle.rows.specs.Words.{no_word, other_case, long, _Atomic, _BitInt, typeof, typeof_unqual, decltype, type, class}

@@ -1,9 +1,9 @@
 -- Computed rows of this crate's definitions, so that a wrong edit of one is refused here. The rows are document 01's; the answers are its or the original's.
 -- Assumes nothing.
-use Rattle.std.specs.Prelude.{ℕ, zero, suc, ◌≡◌, refl, Bool, true, false, List, [], ◌∷◌, ◌++◌, map, replicate}
+use Rattle.std.specs.Prelude.{ℕ, zero, suc, ◌≡◌, refl, true, false, List, [], ◌∷◌, ◌++◌, map, replicate}
 use Rattle.rows.specs.Kinds.{Identifier, Integer, LeftParen, RightParen, LeftBracket, RightBracket, Comma, Less, Greater, ShiftRight}
 use Rattle.rows.specs.Refusals.{refusal_of}
-use Rattle.reader.specs.Nodes.{Nodes, none, node, t_node, g_node, b_node, l_node, a_node, count, records}
+use Rattle.reader.specs.Nodes.{Nodes, none, node, t_node, g_node, l_node, a_node, count, records}
 use Rattle.reader.specs.Reading.{Got, got, bad, Fault, refusal, no_list, reading, kind_at}
 use Rattle.reader.specs.Written.{Token, sign, written, halved, closing_angles, without_closing_angles}
 use Rattle.reader.specs.Standing.{depth}

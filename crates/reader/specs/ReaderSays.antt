@@ -11,13 +11,10 @@ use Rattle.reader.specs.Reading.{Region, Fault, refusal, Got, got, bad, starts, 
 use Rattle.reader.specs.Allowance.{Limited, done, denied, spent, steps, reading_within, behind}
 use Rattle.reader.specs.declared.parser.TypeSyntaxParser.{TypeSyntaxParser}
 use Rattle.reader.specs.declared.parser.Stop.{Stop}
-use Rattle.reader.specs.declared.parser.Stop.TheVariants as Stop
 use Rattle.reader.specs.declared.parser.Reading as CodeReading
 use Rattle.reader.specs.declared.parser.Reading.TheVariants.{Done, Stopped}
 use Rattle.reader.specs.declared.parser.ListReading.{ListReading}
-use Rattle.reader.specs.declared.parser.ListReading.TheVariants as ListReading
 use Rattle.reader.specs.declared.parser.Parsed.{Parsed}
-use Rattle.reader.specs.declared.parser.Parsed.TheVariants as Parsed
 
 -- ---- what a caller sees to
 

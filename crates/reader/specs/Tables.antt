@@ -11,9 +11,7 @@ use Rattle.rows.specs.declared.answer.TypeNameError.TheVariants.{UnterminatedGro
 use Rattle.reader.specs.Nodes.{NodeKind, g_node, b_node}
 use Rattle.reader.specs.Reading.{Region, top, round, square, refusal, Next, ends, stops, token, group, angle, first, starts, next}
 use Rattle.reader.specs.declared.tables.Start.{Start}
-use Rattle.reader.specs.declared.tables.Start.TheVariants as Start
 use Rattle.reader.specs.declared.tables.GroupStep.{GroupStep}
-use Rattle.reader.specs.declared.tables.GroupStep.TheVariants as GroupStep
 
 -- The node of a group.
 abbrev pub node_of : Delimiter → NodeKind

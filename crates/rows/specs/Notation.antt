@@ -1,6 +1,6 @@
 -- Notation that the definitions share.
 -- Assumes nothing.
-use Rattle.std.specs.Prelude.{ℕ, zero, suc, Bool, true, false, ◌||◌, List, [], ◌∷◌, get_or, eqb}
+use Rattle.std.specs.Prelude.{ℕ, Bool, true, false, ◌||◌, List, [], ◌∷◌, eqb}
 
 infix 10 if◌then◌else◌
 -- The Rust's `if .. else ..` as a value.

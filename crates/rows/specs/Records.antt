@@ -1,10 +1,10 @@
 -- The records of a file in a format: document 01, "Head record" and "Token record". A file is the list of its bytes.
 -- Assumes nothing.
-use Rattle.std.specs.Prelude.{ℕ, zero, suc, ◌+◌, ◌*◌, ◌-◌, Bool, true, false, not, ◌&&◌, ◌||◌, List, [], ◌∷◌, map, length, get_or, take, drop, leb, ltb, eqb}
+use Rattle.std.specs.Prelude.{ℕ, zero, suc, ◌+◌, ◌*◌, ◌-◌, Bool, true, false, not, ◌&&◌, List, [], ◌∷◌, map, length, get_or, take, drop, leb, ltb, eqb}
 use Rattle.rows.specs.Notation.{if◌then◌else◌}
 use Rattle.rows.specs.Kinds.{Identifier, End}
 use Rattle.rows.specs.Words.{word_number}
-use Rattle.rows.specs.Format.{short_bytes, allowance_bytes, head_length, at_length, at_kind, at_language, at_standard, at_flag, at_allowance, at_span, span_bytes, token_length, longest_word, least_word_byte, greatest_word_byte, most_tokens, meant}
+use Rattle.rows.specs.Format.{short_bytes, allowance_bytes, head_length, at_length, at_kind, at_language, at_standard, at_flag, at_allowance, at_span, span_bytes, token_length, longest_word, least_word_byte, greatest_word_byte, meant}
 use Rattle.rows.specs.declared.format.Format.{Format}
 use Rattle.rows.specs.declared.answer.TypeNameError.{TypeNameError}
 use Rattle.rows.specs.declared.answer.TypeNameError.TheVariants.{FileTooLong, InvalidHead, UnknownProfile, InvalidRecord, TooManyRecords}
@@ -12,8 +12,6 @@ use Rattle.rows.specs.declared.head.Meaning.{Meaning}
 use Rattle.rows.specs.declared.head.Meaning.TheVariants.{Means, Unknown}
 use Rattle.rows.specs.declared.token.SourceSpan.{SourceSpan}
 use Rattle.rows.specs.declared.token.TokenRecord.{TokenRecord}
-use Rattle.rows.specs.declared.token.TokenRecord.TheVariants as TokenRecord
-use Rattle.rows.specs.declared.head.Head.{Head}
 use Rattle.rows.specs.declared.head.FileHead.{FileHead}
 use Rattle.rows.specs.declared.head.FileHead.TheVariants.{Formed, Refused}
 

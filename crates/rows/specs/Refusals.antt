@@ -1,7 +1,6 @@
 -- The number, token and detail of each refusal: document 01, "Answer record".
 -- Assumes nothing.
 use Rattle.std.specs.Prelude.{ℕ}
-use Rattle.rows.specs.declared.answer.Delimiter.{Delimiter}
 use Rattle.rows.specs.declared.answer.Delimiter.TheVariants.{Parenthesis, Bracket}
 use Rattle.rows.specs.declared.answer.Open.{Open}
 use Rattle.rows.specs.declared.answer.Open.TheVariants.{Nothing, Opened}

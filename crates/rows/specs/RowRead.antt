@@ -2,7 +2,7 @@
 -- Assumes nothing.
 use Rattle.std.specs.Prelude.{ℕ, ◌≤◌, ◌<◌, ◌^◌, ◌≡◌, List, length, take, drop}
 use Rattle.rows.specs.declared.format.Format.{Format}
-use Rattle.rows.specs.Records.{RowToken, Tokens, malformed, tokens, tokens_from, Row, refused, row, records_from, kinds_of, words_of, places_of}
+use Rattle.rows.specs.Records.{RowToken, malformed, tokens, tokens_from, refused, row, records_from, kinds_of, words_of, places_of}
 use Rattle.rows.specs.declared.row.RecordsRead.{RecordsRead}
 use Rattle.rows.specs.declared.row.RecordsRead.TheVariants as Records
 use Rattle.rows.specs.declared.row.RowRead.{RowRead}

@@ -4,9 +4,7 @@ use Rattle.std.specs.Prelude.{ℕ, List, [], ◌∷◌}
 use Rattle.rows.specs.declared.answer.Answer.TheVariants as Answer
 use Rattle.type_name.specs.AnswerNumbers.{answer_numbers, answer_code}
 use Rattle.rule_answers.specs.declared.matching.MatchAnswer.{MatchAnswer}
-use Rattle.rule_answers.specs.declared.matching.MatchAnswer.TheVariants as MatchAnswer
 use Rattle.rule_answers.specs.declared.overlap.OverlapAnswer.{OverlapAnswer}
-use Rattle.rule_answers.specs.declared.overlap.OverlapAnswer.TheVariants as OverlapAnswer
 
 -- The winner "is reported by place from 0", behind node count and steps; a refusal as ever.
 unfoldable pub match_numbers : MatchAnswer → List ℕ

@@ -4,7 +4,6 @@ use Rattle.std.specs.Prelude.{ℕ, ◌*◌, ◌<◌, ◌≡◌, List, length, ta
 use Rattle.rows.specs.Records.{RowToken}
 use Rattle.rows.specs.Refusals.{refusal_of}
 use Rattle.rows.specs.declared.answer.Answer.{Answer}
-use Rattle.rows.specs.declared.answer.Answer.TheVariants as Answer
 use Rattle.rows.specs.declared.answer.TypeNameError.{TypeNameError}
 use Rattle.reader.specs.Nodes.{Nodes, count, node_width, records}
 use Rattle.type_name.specs.FileRow.{passes}
@@ -16,7 +15,6 @@ use Rattle.rules.specs.RuleTable.{a_table, table_of}
 use Rattle.rule_answers.specs.MatchAnswers.{by_winner, match_in}
 use Rattle.rule_answers.specs.MatchPromises.{AcceptedTree}
 use Rattle.rule_answers.specs.declared.matching.MatchAnswer.{MatchAnswer}
-use Rattle.rule_answers.specs.declared.matching.MatchAnswer.TheVariants as MatchAnswer
 
 -- The file is accepted with so many nodes after so many steps, and its tree stands in front of the buffer.
 pub record TreeLeft (file tree : List ℕ) (nodes steps : ℕ) : Type 0 where

@@ -1,9 +1,9 @@
 -- Computed examples, worked out by hand from document 02, C-11, so that a wrong edit of a definition is refused here.
 -- Assumes nothing.
-use Rattle.std.specs.Prelude.{ℕ, zero, suc, ◌≡◌, refl, Bool, true, false, List, [], ◌∷◌, ◌++◌, replicate}
+use Rattle.std.specs.Prelude.{ℕ, zero, suc, ◌≡◌, refl, true, false, List, [], ◌∷◌, ◌++◌, replicate}
 use Rattle.rows.specs.Kinds.{Star}
-use Rattle.rules.specs.Rules.{Node, word_node, kind_node, group_node, list_node, Item, word, kind, group, list, any, Rule, Winner, no_winner, wins, winner, good_word, good_kind}
-use Rattle.rules.specs.RuleTable.{RuleFound, no_rule, a_rule, TableFound, no_table, a_table, table_of, rules_from, rule_at, rule_head, rule_length, items_from, rest_at, item_at, word_item, kind_item, with_item, with_rule, front, item_bytes}
+use Rattle.rules.specs.Rules.{word_node, kind_node, list_node, word, kind, group, list, any, Rule, no_winner, wins, winner, good_word, good_kind}
+use Rattle.rules.specs.RuleTable.{TableFound, no_table, a_table, table_of, rules_from, rule_at, rule_head, rule_length, items_from, rest_at, item_at, word_item, kind_item, with_item, with_rule, front}
 use Rattle.rules.specs.Overlaps.{shown, items_bytes}
 use Rattle.rules.specs.Meeting.{rules_meet}
 use Rattle.rows.specs.Records.{little_endian, in_range}

@@ -1,6 +1,6 @@
 -- What the code is lent of a row to see its tree's nodes as rules do. Document 02, C-11.
 -- Assumes nothing.
-use Rattle.std.specs.Prelude.{ℕ, ◌≤◌, ◌<◌, ◌≡◌, Bool, List, length, get_or, eqb, leb, ltb}
+use Rattle.std.specs.Prelude.{ℕ, ◌≤◌, ◌<◌, ◌≡◌, List, length, get_or, eqb, leb, ltb}
 use Rattle.rows.specs.Notation.{if◌then◌else◌}
 use Rattle.rows.specs.Kinds.{Identifier, End}
 use Rattle.rows.specs.Format.{format}
@@ -8,7 +8,7 @@ use Rattle.rows.specs.Records.{RowToken, found, kinds_of, places_of, word_in}
 use Rattle.reader.specs.Nodes.{Nodes, none, node}
 use Rattle.type_nodes.specs.Shapes.{TemplateArguments}
 use Rattle.type_nodes.specs.Stands.{Stands}
-use Rattle.rules.specs.Rules.{Node, word_node, kind_node, group_node, list_node, matches, Rule}
+use Rattle.rules.specs.Rules.{Node, word_node, kind_node, group_node, list_node}
 use Rattle.rules.specs.Seen.{no_row_token, node_seen}
 
 -- A row's kinds and places stand in two arrays, and its words in the file.

@@ -5,7 +5,7 @@ use Rattle.rows.specs.Notation.{if◌then◌else◌}
 use Rattle.rows.specs.Format.{longest_word}
 use Rattle.rows.specs.Kinds.{Identifier, End}
 use Rattle.rows.specs.Records.{in_range}
-use Rattle.rows.specs.Words.{same_exactly, same_ignoring_case}
+use Rattle.rows.specs.Words.{same_exactly}
 
 -- A top-level node as rules see it: a T of kind 0 with its word, a T of another kind, "a group (parentheses or brackets)", "a list".
 pub data Node : Type 0 where

@@ -1,6 +1,6 @@
 -- The top-level nodes of a tree as rules see them: document 02, C-11.
 -- Assumes nothing.
-use Rattle.std.specs.Prelude.{ℕ, List, [], ◌∷◌, get_or, eqb}
+use Rattle.std.specs.Prelude.{List, [], ◌∷◌, get_or, eqb}
 use Rattle.rows.specs.Notation.{if◌then◌else◌}
 use Rattle.rows.specs.Kinds.{Identifier, NoToken}
 use Rattle.rows.specs.Records.{RowToken}

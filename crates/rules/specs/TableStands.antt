@@ -7,13 +7,9 @@ use Rattle.rules.specs.Overlaps.{rule, FirstAfter, NoneAfter}
 use Rattle.rules.specs.Meeting.{rules_meet}
 use Rattle.rules.specs.ItemsStand.{RuleStands}
 use Rattle.rules.specs.declared.winner.WinnerFound.{WinnerFound}
-use Rattle.rules.specs.declared.winner.WinnerFound.TheVariants as WinnerFound
 use Rattle.rules.specs.declared.pairs.PairFound.{PairFound}
-use Rattle.rules.specs.declared.pairs.PairFound.TheVariants as PairFound
 use Rattle.rules.specs.declared.table.RuleRead.{RuleRead}
-use Rattle.rules.specs.declared.table.RuleRead.TheVariants as RuleRead
 use Rattle.rules.specs.declared.table.TableRead.{TableRead}
-use Rattle.rules.specs.declared.table.TableRead.TheVariants as TableRead
 
 -- A rule was found.
 abbrev pub is_rule : RuleFound → Bool

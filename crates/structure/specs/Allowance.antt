@@ -1,6 +1,6 @@
 -- A check under an allowance of steps: document 01, "Steps".
 -- Assumes nothing.
-use Rattle.std.specs.Prelude.{ℕ, ◌-◌, Bool, true, false}
+use Rattle.std.specs.Prelude.{ℕ, ◌-◌}
 use Rattle.rows.specs.Allowance.{within}
 use Rattle.structure.specs.Said.{Said, holds, fails}
 use Rattle.structure.specs.declared.moves.Verdict.{Verdict}

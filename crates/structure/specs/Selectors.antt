@@ -1,7 +1,7 @@
 -- The selectors in the parentheses of a Fortran type. Document 01, "Node record" and "Steps". `check`: the counted checks, as specs/Checks.antt makes
 -- them.
 -- Assumes nothing.
-use Rattle.std.specs.Prelude.{ℕ, true, false, ◌&&◌, ◌||◌, not, List}
+use Rattle.std.specs.Prelude.{ℕ, ◌&&◌, ◌||◌, not, List}
 use Rattle.std.proofs.Math.Dec.{eqb}
 use Rattle.rows.specs.Notation.{if◌then◌else◌}
 use Rattle.rows.specs.Kinds.{Identifier, Colon, Star, Equal}

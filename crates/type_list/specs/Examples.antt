@@ -1,8 +1,8 @@
 -- Computed examples, worked out by hand from document 02, C-12, so that a wrong edit of a definition is refused here.
 -- Assumes nothing.
-use Rattle.std.specs.Prelude.{ℕ, ◌≡◌, refl, List, [], ◌∷◌, ◌++◌, map, length, take, replicate}
+use Rattle.std.specs.Prelude.{ℕ, ◌≡◌, refl, List, [], ◌∷◌, map, length, take, replicate}
 use Rattle.rows.specs.Languages.{C, Cpp, C89, Cpp17}
-use Rattle.rows.specs.Kinds.{LeftParen, RightParen, Comma, Less, Greater, ShiftRight}
+use Rattle.rows.specs.Kinds.{LeftParen, RightParen, Comma, Less, Greater}
 use Rattle.rows.specs.Records.{RowToken}
 use Rattle.rows.specs.declared.answer.TypeNameError.TheVariants.{ShortBuffer, Empty, UnclosedAngle}
 use Rattle.reader.specs.Written.{Token, sign}

@@ -8,7 +8,6 @@ use Rattle.rows.specs.Refusals.{refusal_of}
 use Rattle.rows.specs.declared.answer.TypeNameError.{TypeNameError}
 use Rattle.rows.specs.declared.answer.TypeNameError.TheVariants.{AllowancePassed}
 use Rattle.rows.specs.declared.answer.Answer.{Answer}
-use Rattle.rows.specs.declared.answer.Answer.TheVariants as Answer
 use Rattle.rows.specs.declared.head.Head.{Head}
 use Rattle.reader.specs.Nodes.{t_node, Nodes, number, count, records, kind_of, token_of}
 use Rattle.reader.specs.Reading.{MAX_NESTING_DEPTH}

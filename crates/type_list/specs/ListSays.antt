@@ -1,12 +1,11 @@
 -- What the contracts below the entry say: of a part, of the parts taken so far, and of the buffer. They are worded with the definitions of Parts.antt
 -- and ListAnswers.antt.
 -- Assumes nothing.
-use Rattle.std.specs.Prelude.{ℕ, suc, ◌+◌, ◌*◌, ◌-◌, ◌≤◌, ◌≡◌, List, [], ◌∷◌, ◌++◌, length, take, drop, ltb}
+use Rattle.std.specs.Prelude.{ℕ, ◌+◌, ◌*◌, ◌-◌, ◌≤◌, ◌≡◌, List, [], ◌++◌, length, take, drop, ltb}
 use Rattle.rows.specs.Notation.{if◌then◌else◌}
 use Rattle.rows.specs.Format.{most_tokens}
 use Rattle.rows.specs.Records.{RowToken, kinds_of, words_of}
 use Rattle.rows.specs.declared.answer.Answer.{Answer}
-use Rattle.rows.specs.declared.answer.Answer.TheVariants as Answer
 use Rattle.rows.specs.declared.head.Head.{Head}
 use Rattle.reader.specs.Nodes.{Nodes, count, node_width, numbers_per_token, records}
 use Rattle.type_name.specs.FileRow.{passes}
@@ -20,7 +19,6 @@ use Rattle.type_list.specs.declared.answer.ListAnswer.TheVariants.{Accepted, Ref
 use Rattle.type_list.specs.declared.part.Part.{Part}
 use Rattle.type_list.specs.declared.parts.Taken.{Taken}
 use Rattle.type_list.specs.declared.parts.PartStep.{PartStep}
-use Rattle.type_list.specs.declared.parts.PartStep.TheVariants as PartStep
 
 -- ---- a part
 

@@ -11,16 +11,14 @@ use Rattle.rows.specs.declared.head.Head.{Head}
 use Rattle.rows.specs.declared.head.FileHead.TheVariants.{Formed}
 use Rattle.reader.specs.Nodes.{Nodes, count, node_width, numbers_per_token, records}
 use Rattle.reader.specs.declared.parser.Parsed.{Parsed}
-use Rattle.reader.specs.declared.parser.Parsed.TheVariants as Parsed
 use Rattle.type_nodes.specs.Stands.{Stands}
 use Rattle.structure.specs.declared.moves.Verdict.{Verdict}
 use Rattle.structure.specs.declared.moves.Verdict.TheVariants.{Holds, Fails, Spent}
 use Rattle.profile.specs.declared.profile.Lack.{Lack}
 use Rattle.profile.specs.declared.profile.Lack.TheVariants.{Nothing, Lacks}
-use Rattle.type_name.specs.FileRow.{HeadRow, untouched, passes, file_row}
+use Rattle.type_name.specs.FileRow.{untouched, passes, file_row}
 use Rattle.type_name.specs.Answers.{RowAnswer, accepted, refused, tree_checked, row_steps, answer_within, answer_in}
 use Rattle.type_name.specs.declared.file_row.FileRow.{FileRow}
-use Rattle.type_name.specs.declared.file_row.FileRow.TheVariants as FileRow
 
 -- ---- a file's row
 

@@ -8,9 +8,9 @@ use Rattle.rows.specs.Refusals.{no_token}
 use Rattle.reader.specs.Written.{Token, sign}
 use Rattle.rows.specs.declared.answer.Answer.TheVariants.{Accepted, Refused}
 use Rattle.rows.specs.declared.answer.TypeNameError.TheVariants.{InvalidRecord, UnclosedAngle}
-use Rattle.type_name.specs.Answers.{answer, final_buffer}
+use Rattle.type_name.specs.Answers.{final_buffer}
 use Rattle.type_name.specs.AnswerNumbers.{answer_numbers, answer_code}
-use Rattle.type_name.specs.FirstLines.{FirstLine, ok, refuses, first_line_of, answer_first_line, file_first_line}
+use Rattle.type_name.specs.FirstLines.{ok, refuses, first_line_of, file_first_line}
 use Rattle.type_name.specs.StarredRows.{word, int_file}
 
 -- `Lane<(Key<8>>2)>`, C++17, with flag 0 and with flag 1

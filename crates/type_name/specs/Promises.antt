@@ -2,14 +2,14 @@
 -- buffer holds at exit. The entry's contract cites these by name.
 -- Assumes nothing.
 use Rattle.std.specs.Prelude.{ℕ, ◌*◌, ◌≤◌, ◌<◌, ◌≡◌, ◌↔◌, length, take, drop, replicate}
-use mathlib.Core.List.{List, [], ◌∷◌, map, Memᴰ}
+use mathlib.Core.List.{List, [], map, Memᴰ}
 use Rattle.rows.specs.Kinds.{LeftParen, LeftBracket, ShiftRight}
 use Rattle.rows.specs.Format.{format, head_length, most_tokens, SameOrLater}
 use Rattle.rows.specs.Records.{RowToken, row, head, records_from, kinds_of}
 use Rattle.rows.specs.Refusals.{refusal_of}
 use Rattle.rows.specs.declared.answer.TypeNameError.{TypeNameError}
 use Rattle.rows.specs.declared.answer.Answer.{Answer}
-use Rattle.rows.specs.declared.answer.Answer.TheVariants.{Accepted, Refused}
+use Rattle.rows.specs.declared.answer.Answer.TheVariants.{Accepted}
 use Rattle.rows.specs.declared.head.Head.{Head}
 use Rattle.rows.specs.declared.head.FileHead.TheVariants.{Formed}
 use Rattle.prescan.specs.Matcher.{Pair, Paired}

@@ -1,8 +1,8 @@
 -- The rows that document 01 works out and marks *, as one table about the definitions.
 -- Assumes nothing.
-use Rattle.std.specs.Prelude.{ℕ, zero, suc, ◌≤◌, ◌<◌, ◌≡◌, refl, Bool, true, false, List, [], ◌∷◌, ◌++◌, replicate}
+use Rattle.std.specs.Prelude.{ℕ, zero, suc, ◌≤◌, ◌<◌, ◌≡◌, refl, List, [], ◌∷◌, replicate}
 use Prim.Native.String.{String}
-use Rattle.std.proofs.Common.{ap, subst, ◌∙◌, arith, le-leb}
+use Rattle.std.proofs.Common.{ap, ◌∙◌, arith, le-leb}
 use Rattle.rows.specs.Languages.{C, Cpp, Fortran, C89, C99, C11, C23, Cpp11, Cpp17, Fortran77}
 use Rattle.rows.specs.Format.{declared}
 use Rattle.rows.specs.Kinds.{Identifier, Integer, LeftParen, RightParen, Scope, Star, Less, Greater, ShiftRight}

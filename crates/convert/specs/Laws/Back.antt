@@ -11,7 +11,6 @@ use Rattle.std.proofs.Math.Nat.{add-mul-div_left, add-mul-mod_self_left, div-eq_
 use Rattle.std.proofs.Math.ListN.{length, take}
 use Rattle.std.proofs.Math.Seq.{drop-drop}
 use Rattle.std.proofs.Math.Dec.{T, eqb, leb→le, eqb→eq}
-use Rattle.rows.specs.Notation.{if◌then◌else◌}
 use Rattle.rows.specs.Format.{short_bytes, allowance_bytes, head_length, at_length, at_kind, at_language, at_standard, at_flag, at_allowance, at_span, span_bytes, token_length, meant}
 use Rattle.rows.specs.declared.format.Format.{Format}
 use Rattle.rows.specs.declared.answer.TypeNameError.{TypeNameError}

@@ -15,7 +15,6 @@ use Rattle.rows.specs.Format.{head_length, most_tokens}
 use Rattle.rows.specs.declared.format.Format.{Format}
 use Rattle.rows.specs.declared.answer.TypeNameError.TheVariants.{InvalidRecord, TooManyRecords}
 use Rattle.rows.specs.declared.head.FileHead.{FileHead}
-use Rattle.rows.specs.declared.head.FileHead.TheVariants as FileHead
 use Rattle.rows.specs.declared.head.Head.{Head}
 use Rattle.rows.specs.declared.token.TokenRecord.TheVariants.{Formed, Malformed}
 use Rattle.rows.specs.Records.{Tokens, malformed, tokens, before_tokens, row, refused, head, found, span_end_at, tokens_from, to_end, records_from}

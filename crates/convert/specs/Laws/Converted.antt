@@ -1,6 +1,6 @@
 -- The theorems of the conversions, from the fields behind a converted file.
 -- Assumes nothing.
-use Rattle.std.specs.Prelude.{ℕ, ◌+◌, ◌*◌, ◌-◌, ◌≤◌, ◌≡◌, refl, Bool, true, false, List, length, get_or, ltb}
+use Rattle.std.specs.Prelude.{ℕ, ◌+◌, ◌*◌, ◌≤◌, ◌≡◌, refl, Bool, true, false, List, length, get_or, ltb}
 use Rattle.std.proofs.Common.{sym, ap, subst, ◌∙◌, arith, ltb-false, le-ltb}
 use Rattle.rows.specs.Notation.{if◌then◌else◌}
 use Rattle.rows.specs.Format.{format, old_format, at_language, at_standard, most_tokens, standard_255}

@@ -20,7 +20,6 @@ use Rattle.rows.specs.declared.format.StandIn.TheVariants.{Nothing, StandsFor}
 use Rattle.rows.specs.declared.answer.TypeNameError.TheVariants.{FileTooLong, InvalidHead, UnknownProfile, ShortBuffer}
 use Rattle.rows.specs.declared.head.Head.{Head}
 use Rattle.rows.specs.declared.head.FileHead.{FileHead}
-use Rattle.rows.specs.declared.head.FileHead.TheVariants as FileHead
 use Rattle.rows.specs.declared.head.Meaning.{Meaning}
 use Rattle.rows.specs.declared.head.Meaning.TheVariants.{Means, Unknown}
 use Rattle.rows.specs.declared.token.TokenRecord.{TokenRecord}

@@ -8,7 +8,6 @@ use Rattle.rows.specs.declared.format.Format.{Format}
 use Rattle.rows.specs.declared.answer.TypeNameError.{TypeNameError}
 use Rattle.rows.specs.declared.head.Head.{Head}
 use Rattle.rows.specs.declared.head.FileHead.{FileHead}
-use Rattle.rows.specs.declared.head.FileHead.TheVariants as FileHead
 use Rattle.rows.specs.Records.{RowToken, Row, refused, row, head, records_from}
 use Rattle.type_name.specs.FileRow.{Outcome, untouched, passes, on_pass, head_read, row_read}
 use Rattle.convert.specs.Fields.{Fields, fields_with, fields_of}

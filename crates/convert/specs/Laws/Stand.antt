@@ -6,7 +6,6 @@ use Rattle.std.proofs.Math.Path.{refl, ap}
 use Rattle.std.proofs.Common.{◌∙◌, arith, leb→le}
 use mathlib.Core.List.{List, [], ◌∷◌}
 use Rattle.rows.specs.Laws.Tests.{by_if}
-use Rattle.rows.specs.Notation.{if◌then◌else◌}
 use Rattle.rows.specs.declared.format.Format.{Format}
 use Rattle.rows.specs.Records.{RowToken, Tokens, malformed, tokens, before_tokens, Row, refused, row, found, kind_at, length_at, after_record, tokens_from, to_end, records_from}
 use Rattle.rows.specs.Laws.Tokens.{formed_fits}

@@ -9,7 +9,7 @@ use Rattle.std.proofs.Math.ListN.{length, get_or, length-map}
 use Rattle.rows.specs.Kinds.{Less}
 use Rattle.rows.specs.Languages.{Cpp}
 use Rattle.rows.specs.Format.{format, head_length, most_tokens}
-use Rattle.rows.specs.Records.{RowToken, row, kinds_of, words_of}
+use Rattle.rows.specs.Records.{RowToken, kinds_of, words_of}
 use Rattle.rows.specs.Laws.RowFacts.{good_row}
 use Rattle.rows.specs.declared.head.Head.{Head}
 use Rattle.rows.specs.declared.answer.Answer.{Answer}

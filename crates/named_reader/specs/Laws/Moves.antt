@@ -18,7 +18,6 @@ use Rattle.reader.specs.Laws.NodeNumbers.{three_each}
 use Rattle.named_reader.specs.NamedReading.{Frame, group, list, State, push, closed}
 use Rattle.named_reader.specs.NamedSays.{begun, link, open_records, Stands, list_innermost}
 use Rattle.named_reader.specs.declared.frames.NamedReader.{NamedReader}
-use Rattle.named_reader.specs.declared.frames.NamedStep.TheVariants as Code
 use Rattle.named_reader.specs.Laws.Frames.{count_push, records_push, begun_push, open_push, open_length, kind_there, last_there, last_put}
 
 abbrev pub moved : (nodes inner nesting left : ℕ) → NamedReader

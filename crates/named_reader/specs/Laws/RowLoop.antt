@@ -20,7 +20,6 @@ use Rattle.reader.specs.Reading.{Got, got, bad, MAX_NESTING_DEPTH}
 use Rattle.reader.specs.Allowance as Allowance
 use Rattle.reader.specs.ReaderSays.{ParseSays, Parses}
 use Rattle.reader.specs.declared.parser.Parsed.{Parsed}
-use Rattle.reader.specs.declared.parser.Parsed.TheVariants as Parsed
 use Rattle.named_reader.specs.NamedReading.{Frame, group, list, State, Step, on, stops, plain, begin, unless_empty, closed, at_greater, second_half, at_shift, at_comma, at_closer, no_bracket, after_name, in_role, take_token, at_end, go_on, read_on, start, named_reading}
 use Rattle.named_reader.specs.NamedSays.{begun, link, open_records, Stands, Held, RoomFor, list_innermost, InList, Comes, Does, Grows, EndSays, Ends}
 use Rattle.named_reader.specs.declared.frames.NamedReader.{NamedReader}

@@ -13,7 +13,6 @@ use Rattle.rows.specs.Laws.RowFacts.{WordsFound, words_found}
 use Rattle.names.specs.NameList.{is_name, NameList, listed, malformed, name_list, names_marked}
 use Rattle.names.specs.NamesSay.{word_of, Table, NamesListed, NamesTold, ReadsNames, RowIs, Marks}
 use Rattle.names.specs.declared.name_list.NamesRead.{NamesRead}
-use Rattle.names.specs.declared.name_list.NamesRead.TheVariants as NamesRead
 
 -- ---- `read_names`
 

@@ -1,10 +1,9 @@
 -- The prescan's refusals are those from 10 to 18.
 -- Assumes nothing.
-use Rattle.std.specs.Prelude.{ℕ, suc, ◌-◌, Bool, true, false, ◌&&◌, ◌||◌, length, get_or, T}
+use Rattle.std.specs.Prelude.{ℕ, suc, ◌-◌, ◌&&◌, length, get_or}
 use Rattle.std.proofs.Math.Bool.{not}
 use mathlib.Core.List.{List, [], ◌∷◌}
 use Rattle.std.proofs.Math.Dec.{leb, eqb}
-use Rattle.rows.specs.Notation.{if◌then◌else◌}
 use Rattle.rows.specs.Kinds.{NoToken, Comma, Less, Greater, ShiftRight, End}
 use Rattle.rows.specs.Laws.Tests.{by_if}
 use Rattle.rows.specs.Laws.Numbered.{Between}

@@ -1,10 +1,9 @@
 -- A token outside brackets, arm by arm, as code takes it.
 -- Assumes nothing.
-use Rattle.std.specs.Prelude.{ℕ, suc, ◌+◌, ◌-◌, ◌≤◌, ◌<◌, ◌≡◌, Bool, true, false, not, ◌&&◌, List, [], leb, eqb}
+use Rattle.std.specs.Prelude.{ℕ, ◌+◌, ◌-◌, ◌≤◌, ◌<◌, ◌≡◌, true, false, []}
 use Rattle.std.proofs.Math.Path.{refl}
 use Rattle.std.proofs.Common.{add-one}
 use borrow.Author.Tests.{eq-eqb, ne_eqb, le-leb, lt-leb}
-use Rattle.rows.specs.Notation.{if◌then◌else◌}
 use Rattle.rows.specs.Kinds.{Comma, Less, Greater, ShiftRight}
 use Rattle.rows.specs.Refusals.{no_token}
 use Rattle.rows.specs.declared.answer.TypeNameError.TheVariants.{UnexpectedAngle, TopLevelComma}

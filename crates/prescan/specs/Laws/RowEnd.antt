@@ -1,15 +1,14 @@
 -- The row's end, way by way, as code takes it.
 -- Assumes nothing.
-use Rattle.std.specs.Prelude.{ℕ, zero, suc, ◌-◌, ◌<◌, ◌≤◌, ◌≡◌, Bool, true, false, not, ◌&&◌, List, [], ◌∷◌, length, get_or, eqb}
+use Rattle.std.specs.Prelude.{ℕ, suc, ◌-◌, ◌<◌, ◌≤◌, ◌≡◌, Bool, true, false, ◌&&◌, List, [], length, get_or, eqb}
 use Rattle.std.proofs.Math.Path.{refl, sym}
-use Rattle.std.proofs.Common.{ap, ◌∙◌, arith}
+use Rattle.std.proofs.Common.{◌∙◌, arith}
 use borrow.Author.Tests.{eq-eqb, ne_eqb}
-use Rattle.rows.specs.Notation.{if◌then◌else◌}
 use Rattle.rows.specs.Kinds.{NoToken}
 use Rattle.rows.specs.declared.answer.Delimiter.{Delimiter}
 use Rattle.rows.specs.declared.answer.TypeNameError.TheVariants.{UnclosedDelimiter, UnclosedAngle, MissingTypeWord, InvalidBoundaryToken}
 use Rattle.rows.specs.Laws.Lookups.{any_default}
-use Rattle.prescan.specs.Prescan.{Scan, Scanned, passed, refused, valid_start, valid_end, row_end}
+use Rattle.prescan.specs.Prescan.{Scanned, passed, refused, valid_start, valid_end, row_end}
 use Rattle.prescan.specs.ScanState.{delimiter_of, openers, scan_of}
 use Rattle.prescan.specs.declared.scan.ScanState.{ScanState}
 

@@ -1,23 +1,22 @@
 -- The loop over a row's tokens: what is taken so far, and what is left.
 -- Assumes nothing.
-use Rattle.std.specs.Prelude.{ℕ, zero, suc, ◌+◌, ◌-◌, ◌≤◌, ◌<◌, ◌^◌, ◌≡◌, Bool, true, false, ◌||◌, length, get_or}
+use Rattle.std.specs.Prelude.{ℕ, suc, ◌+◌, ◌≤◌, ◌<◌, ◌^◌, ◌≡◌, Bool, true, false, ◌||◌, length, get_or}
 use Rattle.std.proofs.Math.Path.{refl, ap}
-use Rattle.std.proofs.Common.{sym, subst, ◌∙◌, arith, add-one, drop-cons, eq-eqb, ne_eqb}
+use Rattle.std.proofs.Common.{subst, ◌∙◌, arith, add-one, drop-cons, eq-eqb, ne_eqb}
 use mathlib.Core.List.{List, [], ◌∷◌}
 use Rattle.std.proofs.Math.ListN.{drop, drop_of_length-le}
 use Rattle.rows.specs.Kinds.{Identifier}
 use Rattle.rows.specs.Laws.Tests.{or_false}
 use Rattle.rows.specs.declared.answer.TypeNameError.{TypeNameError}
 use Rattle.rows.specs.declared.answer.TypeNameError.TheVariants.{Empty}
-use Rattle.prescan.specs.Prescan.{Scan, Scanned, passed, refused, start, past, take_token, scan, row_end, at_row_end, prescan}
-use Rattle.prescan.specs.ScanState.{openers, scan_of, Past, Sound, outcome_of, StillSound, Takes}
+use Rattle.prescan.specs.Prescan.{passed, refused, start, past, take_token, scan, row_end, at_row_end, prescan}
+use Rattle.prescan.specs.ScanState.{openers, scan_of, Past, Sound, Takes}
 use Rattle.prescan.specs.Laws.Ordinary.{Ordinary, identifier_ordinary}
 use Rattle.prescan.specs.Laws.Taking.{on_past, ordinary_taken}
-use Rattle.prescan.specs.Prescanned.{Same, PrescanSays}
+use Rattle.prescan.specs.Prescanned.{PrescanSays}
 use Rattle.prescan.specs.declared.boundary.Prescanned.{Prescanned}
-use Rattle.prescan.specs.declared.boundary.Prescanned.TheVariants.{Passed, Refused}
+use Rattle.prescan.specs.declared.boundary.Prescanned.TheVariants.{Refused}
 use Rattle.prescan.specs.declared.scan.ScanState.{ScanState}
-use Rattle.prescan.specs.declared.scan.ScanStep.{ScanStep}
 use Rattle.prescan.specs.declared.scan.ScanStep.TheVariants as Step
 
 or_true : (b : Bool) → true ≡ (b || true)

@@ -1,11 +1,11 @@
 -- Steps of the code that change no bracket.
 -- Assumes nothing.
-use Rattle.std.specs.Prelude.{ℕ, suc, ◌≤◌, ◌≡◌, refl, List, []}
+use Rattle.std.specs.Prelude.{ℕ, suc, ◌≤◌, ◌≡◌, List, []}
 use Rattle.std.proofs.Common.{sym, ap, ◌∙◌}
 use Rattle.rows.specs.declared.answer.TypeNameError.{TypeNameError}
 use Rattle.prescan.specs.Matcher.{Opener}
 use Rattle.prescan.specs.Prescan.{Scan, Scanned, passed, refused, past}
-use Rattle.prescan.specs.ScanState.{scan_of, result_of, Past, Keeps, Steps}
+use Rattle.prescan.specs.ScanState.{scan_of, Past, Steps}
 use Rattle.prescan.specs.declared.scan.ScanState.{ScanState}
 use Rattle.prescan.specs.declared.scan.ScanStep.TheVariants.{On, Refused}
 

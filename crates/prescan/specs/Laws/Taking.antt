@@ -1,21 +1,21 @@
 -- A token taken by the code, way by way.
 -- Assumes nothing.
-use Prim.Native.Nat.{ℕ, zero, suc, ◌+◌, ◌-◌, ◌≤◌, ◌<◌}
+use Prim.Native.Nat.{ℕ, zero, suc, ◌+◌, ◌≤◌, ◌<◌}
 use Rattle.std.specs.Prelude.{◌≡◌, Bool, true, false, length, get_or, set, eqb}
 use Rattle.std.proofs.Math.Path.{refl, ap}
-use Rattle.std.proofs.Common.{sym, subst, ◌∙◌, arith, add-one, length-set, get_or-set_same, get_or-set_other}
+use Rattle.std.proofs.Common.{sym, ◌∙◌, arith, length-set, get_or-set_same, get_or-set_other}
 use mathlib.Core.List.{List, [], ◌∷◌}
-use borrow.Author.Tests.{eq-eqb, ne_eqb, eqb-true, eqb-false}
-use Rattle.rows.specs.Notation.{if◌then◌else◌, ◌is_one_of◌}
+use borrow.Author.Tests.{ne_eqb, eqb-true, eqb-false}
+use Rattle.rows.specs.Notation.{◌is_one_of◌}
 use Rattle.rows.specs.Kinds.{LeftParen, RightParen, LeftBracket, RightBracket, Comma, Less, Greater, ShiftRight, End}
 use Rattle.rows.specs.declared.answer.Delimiter.{Delimiter}
 use Rattle.rows.specs.declared.answer.Delimiter.TheVariants.{Parenthesis, Bracket}
 use Rattle.rows.specs.declared.answer.Open.TheVariants.{Nothing, Opened}
 use Rattle.rows.specs.declared.answer.TypeNameError.{TypeNameError}
 use Rattle.rows.specs.declared.answer.TypeNameError.TheVariants.{UnexpectedClosingDelimiter, UnexpectedEndToken}
-use Rattle.prescan.specs.Matcher.{Role, opens, closes, neither, role, same, Opener}
+use Rattle.prescan.specs.Matcher.{opens, neither, role, same}
 use Rattle.prescan.specs.Prescan.{Scan, Scanned, passed, refused, past, close, outside_brackets, no_bracket, in_role, take_token}
-use Rattle.prescan.specs.ScanState.{delimiter_of, openers, scan_of, result_of, Keeps, Past, Steps, Sound, outcome_of, StillSound, Takes}
+use Rattle.prescan.specs.ScanState.{delimiter_of, openers, scan_of, Past, Steps, Sound, Takes}
 use Rattle.prescan.specs.Laws.Ordinary.{Ordinary}
 use Rattle.prescan.specs.Laws.Outside.{other_passes}
 use Rattle.prescan.specs.declared.scan.ScanState.{ScanState}

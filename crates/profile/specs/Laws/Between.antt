@@ -1,6 +1,6 @@
 -- Words of a row by a span of numbers: where none is among them, none of these is called. Assumes nothing.
 use Prim.Native.Nat.{ℕ, zero, suc, ◌+◌, ◌≤◌, ◌<◌}
-use Rattle.std.specs.Prelude.{◌≡◌, Bool, not, ◌&&◌, ◌||◌, List, length, get_or, leb, eqb}
+use Rattle.std.specs.Prelude.{◌≡◌, Bool, not, ◌&&◌, ◌||◌, List, length, get_or, leb}
 use Rattle.std.proofs.Math.Path.{refl}
 use Rattle.std.proofs.Common.{sym, ap, ◌∙◌, arith, add-one, lt_of_not-le, le-leb, ne_eqb}
 use Rattle.std.proofs.Math.Bool.{true, false}

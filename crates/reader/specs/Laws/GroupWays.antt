@@ -1,6 +1,6 @@
 -- What each way through `parse_group` shows, over lists and numbers alone.
 -- Assumes nothing.
-use Rattle.std.specs.Prelude.{ℕ, ◌+◌, ◌*◌, ◌-◌, ◌≤◌, ◌≡◌, refl, ◌≢◌, Bool, false, List, ◌++◌, take, drop, eqb}
+use Rattle.std.specs.Prelude.{ℕ, ◌+◌, ◌*◌, ◌-◌, ◌≤◌, ◌≡◌, refl, ◌≢◌, Bool, false, List, take, drop, eqb}
 use Rattle.std.proofs.Common.{sym, ◌∙◌, length-append}
 use Rattle.std.proofs.Math.Path.{subst}
 use native.Mathlib.Omega.{arith}
@@ -21,7 +21,6 @@ use Rattle.reader.specs.Allowance.{Limited, denied, spent}
 use Rattle.reader.specs.Laws.Ahead.{down_read, turned_ends, turned_stops}
 use Rattle.reader.specs.Laws.Reached.{Way, Reached, begun, reached_done, reached_denied, node_stop, node_more}
 use Rattle.reader.specs.declared.tables.GroupStep.{GroupStep}
-use Rattle.reader.specs.declared.tables.GroupStep.TheVariants as GroupStep
 use Rattle.reader.specs.declared.parser.TypeSyntaxParser.{TypeSyntaxParser}
 use Rattle.reader.specs.declared.parser.Stop.{Stop}
 use Rattle.reader.specs.declared.parser.Stop.TheVariants.{Refused, Spent}

@@ -19,14 +19,12 @@ use Rattle.reader.specs.Laws.Allowance.{on_done, Costs, limited_token, limited_g
 use Rattle.reader.specs.Laws.Buffer.{node_written, token_written}
 use Rattle.reader.specs.Laws.GroupWays.{node_stops_so, group_stopped}
 use Rattle.reader.specs.declared.tables.Start.{Start}
-use Rattle.reader.specs.declared.tables.Start.TheVariants as Start
 use Rattle.reader.specs.declared.parser.TypeSyntaxParser.{TypeSyntaxParser}
 use Rattle.reader.specs.declared.parser.Stop.{Stop}
 use Rattle.reader.specs.declared.parser.Stop.TheVariants.{Refused, Spent}
 use Rattle.reader.specs.declared.parser.Reading as CodeReading
 use Rattle.reader.specs.declared.parser.Reading.TheVariants.{Done, Stopped}
 use Rattle.reader.specs.declared.parser.ListReading.{ListReading}
-use Rattle.reader.specs.declared.parser.ListReading.TheVariants as ListReading
 
 -- ---- what a try of a list came to
 

@@ -1,7 +1,7 @@
 -- Little-endian numbers by their bytes.
 -- Assumes nothing.
-use Rattle.std.specs.Prelude.{ℕ, suc, ◌+◌, ◌*◌, ◌≡◌, refl, List, get_or}
-use Rattle.std.proofs.Common.{sym, ap, arith, add-one}
+use Rattle.std.specs.Prelude.{ℕ, ◌+◌, ◌*◌, ◌≡◌, List, get_or}
+use Rattle.std.proofs.Common.{arith, add-one}
 use Rattle.std.proofs.Math.Numerals.{add-two, add-four}
 use Rattle.rows.specs.Records.{little_endian}
 

@@ -1,10 +1,9 @@
 -- Which numbers the refusals of the file and of its records have.
 -- Assumes nothing.
-use Rattle.std.specs.Prelude.{ℕ, zero, suc, ◌+◌, Bool, true, false, not, ◌&&◌, List, [], length, get_or, T, leb, ltb, eqb}
-use Rattle.rows.specs.Notation.{if◌then◌else◌}
+use Rattle.std.specs.Prelude.{ℕ, not, ◌&&◌, List, length, get_or, T, leb, ltb}
 use Rattle.rows.specs.Format.{at_language, at_standard, meant}
 use Rattle.rows.specs.declared.format.Format.{Format}
-use Rattle.rows.specs.Records.{RowToken, Tokens, malformed, tokens, Row, row, refused, head, head_formed, head_with, tokens_from, to_end, records_from}
+use Rattle.rows.specs.Records.{Tokens, malformed, tokens, Row, row, refused, head, head_formed, head_with, tokens_from, to_end, records_from}
 use Rattle.rows.specs.Refusals.{refusal_of}
 use Rattle.rows.specs.Laws.Tests.{by_if}
 use Rattle.rows.specs.declared.answer.TypeNameError.{TypeNameError}

@@ -1,10 +1,10 @@
 -- The row to the file's end, from the records that were read. Assumes nothing.
-use Rattle.std.specs.Prelude.{ℕ, ◌≤◌, ◌<◌, ◌≡◌, List, length, leb}
+use Rattle.std.specs.Prelude.{ℕ, ◌≤◌, ◌<◌, ◌≡◌, List, length}
 use Rattle.std.proofs.Math.Path.{ap}
 use Rattle.std.proofs.Common.{subst, ◌∙◌, le-leb}
 use Rattle.std.proofs.lemmas.Bool.{lt-leb}
 use Rattle.rows.specs.declared.format.Format.{Format}
-use Rattle.rows.specs.Records.{Tokens, malformed, tokens, tokens_from, Row, refused, row, to_end, records_from}
+use Rattle.rows.specs.Records.{malformed, tokens_from, refused, to_end, records_from}
 use Rattle.rows.specs.RowRead.{RecordsTaken, RowTaken, RecordsAnswered, ReadsRecords}
 use Rattle.rows.specs.declared.answer.TypeNameError.TheVariants.{InvalidRecord, TooManyRecords}
 use Rattle.rows.specs.declared.row.RecordsRead.{RecordsRead}

@@ -1,21 +1,20 @@
 -- The row record by record, and arrays that are filled from the front: what the loop of the row reader keeps.
 -- Assumes nothing.
 use Prim.Native.Nat.{ℕ, zero, suc, ◌+◌, ◌-◌, ◌≤◌, ◌<◌}
-use Rattle.std.specs.Prelude.{◌≡◌, Bool, true, false, length, get_or, take, drop, set, leb}
+use Rattle.std.specs.Prelude.{◌≡◌, Bool, true, false, length, take, drop, set, leb}
 use Rattle.std.proofs.Math.Path.{refl, sym, ap}
 use Rattle.std.proofs.Common.{◌∙◌, true≢false, add-one, le-leb, length-set, take-suc-set, drop-set-lt, drop-drop}
-use mathlib.Core.List.{List, [], ◌∷◌, ◌++◌, map, map-append}
+use mathlib.Core.List.{List, [], ◌∷◌, ◌++◌, map-append}
 use native.Mathlib.Omega.{arith}
 use Rattle.std.proofs.lemmas.Bool.{lt-leb}
 use Rattle.std.proofs.Math.ListN.{length-append}
 use Rattle.std.proofs.lemmas.List.{length-map}
-use Rattle.rows.specs.Notation.{if◌then◌else◌}
 use Rattle.rows.specs.Words.{word_number}
 use Rattle.rows.specs.Format.{token_length}
 use Rattle.rows.specs.declared.format.Format.{Format}
 use Rattle.rows.specs.Records.{RowToken, Tokens, malformed, tokens, before_tokens, found, word_at, after_record, tokens_from, kinds_of, words_of, places_of}
 use Rattle.rows.specs.RowRead.{Room, Filled, RecordsTaken}
-use Rattle.rows.specs.Laws.Tokens.{Fits, formed_fits, word_part}
+use Rattle.rows.specs.Laws.Tokens.{formed_fits, word_part}
 use Rattle.rows.specs.declared.token.TokenRecord.{TokenRecord}
 use Rattle.rows.specs.declared.token.TokenRecord.TheVariants.{Formed, Malformed}
 

@@ -9,7 +9,6 @@ use Rattle.rows.specs.Records.{RowToken, kinds_of}
 use Rattle.rows.specs.Refusals.{refusal_of}
 use Rattle.rows.specs.Laws.RowFacts.{good_row, few_tokens}
 use Rattle.rows.specs.declared.answer.Answer.{Answer}
-use Rattle.rows.specs.declared.answer.Answer.TheVariants as Answer
 use Rattle.rows.specs.declared.answer.TypeNameError.{TypeNameError}
 use Rattle.rows.specs.declared.answer.TypeNameError.TheVariants.{InvalidRuleTable, NoRuleMatches}
 use Rattle.reader.specs.Nodes.{Nodes, count, node_width, records}
@@ -41,7 +40,6 @@ use Rattle.rule_answers.specs.MatchSays.{TreeLeft, AnswerLeft, WinnerSays, left_
 use Rattle.rule_answers.specs.RowPlaces.{PlacesReady, PlacesRead}
 use Rattle.rule_answers.specs.Laws.Promised.{match_promised, accepted_match, late_zeros, passed_in, tree_in}
 use Rattle.rule_answers.specs.declared.matching.MatchAnswer.{MatchAnswer}
-use Rattle.rule_answers.specs.declared.matching.MatchAnswer.TheVariants as MatchAnswer
 
 -- ---- an accepted file
 

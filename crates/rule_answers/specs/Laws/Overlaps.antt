@@ -16,7 +16,6 @@ use Rattle.rules.specs.Overlaps.{shown, items_bytes, longest_shown, rule, Pair, 
 use Rattle.rules.specs.ItemsStand.{OfRules}
 use Rattle.rules.specs.TableStands.{RulesRead, OfTable, PairTold}
 use Rattle.rules.specs.declared.pairs.PairFound.{PairFound}
-use Rattle.rules.specs.declared.pairs.PairFound.TheVariants as PairFound
 use Rattle.rules.specs.Laws.Overlaps.{node_of, takes_nodes, nodes_good, shown_good, overlap_meets, none_shorter, exactly_shown}
 use Rattle.rules.specs.Laws.Meeting.{items_there}
 use Rattle.rules.specs.Laws.Pairs.{stand_good, of_table, stands_at}

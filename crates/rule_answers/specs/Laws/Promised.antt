@@ -11,7 +11,6 @@ use Rattle.rows.specs.Laws.Numbered.{Between}
 use Rattle.rows.specs.declared.answer.TypeNameError.{TypeNameError}
 use Rattle.rows.specs.declared.answer.TypeNameError.TheVariants.{InvalidRuleTable, NoRuleMatches}
 use Rattle.rows.specs.declared.answer.Answer.{Answer}
-use Rattle.rows.specs.declared.answer.Answer.TheVariants as Answer
 use Rattle.reader.specs.Nodes.{Nodes, count}
 use Rattle.type_name.specs.FileRow.{HeadRow, Outcome, untouched, passes, on_pass, file_row}
 use Rattle.type_name.specs.Answers.{RowAnswer, accepted, refused, row_answer, outcome, answer_in, answer, filled, buffer_in, final_buffer}
@@ -27,7 +26,6 @@ use Rattle.rule_answers.specs.MatchAnswers.{RuleAnswer, by_winner, with_winner, 
 use Rattle.rule_answers.specs.MatchAnswers
 use Rattle.rule_answers.specs.MatchPromises.{MatchesAt, AcceptedTree, Won, MatchPromised}
 use Rattle.rule_answers.specs.declared.matching.MatchAnswer.{MatchAnswer}
-use Rattle.rule_answers.specs.declared.matching.MatchAnswer.TheVariants as MatchAnswer
 
 -- ---- the parts of answers
 

@@ -11,7 +11,6 @@ use Rattle.rules.specs.Overlaps.{rule}
 use Rattle.rules.specs.ItemsStand.{RuleStands}
 use Rattle.rules.specs.TableStands.{RulesRead, TableTold, ReadsTable}
 use Rattle.rules.specs.declared.table.TableRead.{TableRead}
-use Rattle.rules.specs.declared.table.TableRead.TheVariants as TableRead
 use Rattle.rules.specs.Laws.Tables.{rule_within}
 
 by_case : (P : TableFound → Type 0) (b : Bool) {x y : TableFound} → P x → P y → P (elim b as (λ _. TableFound) [ true ↦ x | false ↦ y ])

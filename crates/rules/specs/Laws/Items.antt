@@ -11,11 +11,10 @@ use Rattle.rows.specs.Laws.Tests.{by_if}
 use Rattle.rows.specs.Kinds.{Identifier, End}
 use Rattle.rows.specs.Format.{longest_word}
 use Rattle.rows.specs.Records.{in_range}
-use Rattle.rules.specs.Rules.{Item, word, kind, good_word, good_kind}
+use Rattle.rules.specs.Rules.{word, good_word, good_kind}
 use Rattle.rules.specs.RuleTable.{ItemFound, no_item, item, word_byte, kind_byte, group_byte, list_byte, any_byte, after_two, word_item, kind_item, item_at}
 use Rattle.rules.specs.ItemsStand.{item_read}
 use Rattle.rules.specs.declared.items.ItemRead.{ItemRead}
-use Rattle.rules.specs.declared.items.ItemRead.TheVariants as ItemRead
 
 no_other : (b : ℕ) → b ≤ any_byte → b ≢ word_byte → b ≢ kind_byte → b ≢ group_byte → b ≢ list_byte → b ≢ any_byte → ⊥
 no_other b p a c d e f = omega arith

@@ -1,5 +1,5 @@
 -- The walk over a rule's items and a tree's top-level nodes. Assumes nothing.
-use Rattle.std.specs.Prelude.{ℕ, suc, ◌+◌, ◌*◌, ◌≤◌, ◌<◌, ◌≡◌, Bool, true, false, ◌&&◌, length, leb, ltb}
+use Rattle.std.specs.Prelude.{ℕ, suc, ◌+◌, ◌*◌, ◌≤◌, ◌<◌, ◌≡◌, Bool, true, false, length, leb}
 use Rattle.std.proofs.Math.Path.{refl, ap}
 use Rattle.std.proofs.Common.{sym, ◌∙◌, subst, arith, lt_of_not-le, lt-ltb, le-ltb, le-leb}
 use mathlib.Core.List.{List, [], ◌∷◌}
@@ -10,10 +10,10 @@ use Rattle.reader.specs.Nodes.{Nodes, none, node, count, node_width, numbers_bou
 use Rattle.type_nodes.specs.Nodes.{empty, next}
 use Rattle.type_nodes.specs.Stands.{Stands, NodesStand, Of, below}
 use Rattle.type_nodes.specs.Laws.Siblings.{first, nothing_left, unique}
-use Rattle.rules.specs.Rules.{Node, Item, Rule, fits, matches_items, matches}
-use Rattle.rules.specs.Seen.{node_seen, seen}
+use Rattle.rules.specs.Rules.{Node, Item, Rule, fits, matches}
+use Rattle.rules.specs.Seen.{seen}
 use Rattle.rules.specs.RowSeen.{RowSeen, OfNodes, first_seen}
-use Rattle.rules.specs.ItemsStand.{ItemStands, ItemsStand, SomeItem, RuleStands, SomeRule, OfItem, OfRule, counts}
+use Rattle.rules.specs.ItemsStand.{ItemsStand, SomeItem, RuleStands, SomeRule, OfItem, OfRule, counts}
 use Rattle.rules.specs.Laws.Stand.{item_moves, OneLeft, counts_more, counts_none}
 use Rattle.rules.specs.Laws.Meeting.{one_rule, items_there}
 

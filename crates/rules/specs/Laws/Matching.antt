@@ -1,21 +1,20 @@
 -- Items against nodes, test by test. Assumes nothing.
-use Rattle.std.specs.Prelude.{ℕ, suc, ◌+◌, ◌-◌, ◌≤◌, ◌<◌, ◌≡◌, ◌≢◌, Bool, true, ◌&&◌, length, get_or, take, drop, T}
+use Rattle.std.specs.Prelude.{ℕ, suc, ◌+◌, ◌-◌, ◌≡◌, ◌≢◌, true, ◌&&◌, get_or, take, drop, T}
 use Rattle.std.proofs.Math.Path.{refl, ap}
-use Rattle.std.proofs.Common.{sym, ◌∙◌, subst, arith}
+use Rattle.std.proofs.Common.{sym, ◌∙◌, arith}
 use Rattle.std.proofs.Math.Bool.{false}
-use mathlib.Core.List.{List, [], ◌∷◌}
+use mathlib.Core.List.{List}
 use borrow.Author.Tests.{le-leb, lt-leb, lt-ltb, le-ltb, eq-eqb, ne_eqb}
 use Rattle.std.proofs.Math.Dec.{eqb, leb, ltb, leb→le, nleb→lt, ltb→lt, nltb→le, eqb→eq}
 use Rattle.rows.specs.Laws.Tests.{by_if}
 use Rattle.std.proofs.Math.Facts.{and_yes}
-use Rattle.rows.specs.Notation.{if◌then◌else◌}
-use Rattle.rows.specs.Kinds.{Identifier, End, NoToken}
+use Rattle.rows.specs.Kinds.{Identifier, End}
 use Rattle.rows.specs.Words.{same_exactly}
 use Rattle.type_nodes.specs.Shapes.{NoNode, TemplateArguments}
-use Rattle.rules.specs.Rules.{Node, word_node, kind_node, group_node, list_node, Item, word, kind, group, list, any, good_item, good_kind, fits}
-use Rattle.rules.specs.RuleTable.{word_byte, kind_byte, group_byte, list_byte, any_byte, after_two, item_bytes}
+use Rattle.rules.specs.Rules.{Node, word_node, Item, word, kind, group, list, any, good_item, good_kind, fits}
+use Rattle.rules.specs.RuleTable.{word_byte, kind_byte, group_byte, any_byte, after_two, item_bytes}
 use Rattle.rules.specs.RowSeen.{shape_seen}
-use Rattle.rules.specs.ItemsStand.{ItemStands, SomeItem, OfItem}
+use Rattle.rules.specs.ItemsStand.{ItemStands}
 use Rattle.rules.specs.Laws.Stand.{byte_at, byte_there, first_byte, word_text}
 
 -- ---- what a shape is seen as

@@ -1,5 +1,5 @@
 -- The walk over the items of two rules that tells whether they overlap. Assumes nothing.
-use Rattle.std.specs.Prelude.{ℕ, ◌+◌, ◌-◌, ◌≤◌, ◌<◌, ◌≡◌, Bool, not, ◌&&◌, ◌||◌, length, get_or, take, drop, eqb, ltb}
+use Rattle.std.specs.Prelude.{ℕ, ◌-◌, ◌≤◌, ◌<◌, ◌≡◌, Bool, not, ◌||◌, get_or, take, drop, ltb}
 use Rattle.std.proofs.Math.Path.{refl, sym}
 use Rattle.std.proofs.Common.{ap, ◌∙◌, subst, arith}
 use Rattle.std.proofs.Math.Bool.{true, false}
@@ -7,11 +7,11 @@ use mathlib.Core.List.{List, [], ◌∷◌}
 use borrow.Author.Tests.{le-ltb, lt-ltb, eq-eqb, ne_eqb}
 use Rattle.rows.specs.Words.{same_exactly}
 use Rattle.rules.specs.Rules.{Item, Rule}
-use Rattle.rules.specs.RuleTable.{RuleFound, no_rule, a_rule, most_items, any_byte, item_bytes, items_from}
+use Rattle.rules.specs.RuleTable.{RuleFound, no_rule, a_rule, most_items, any_byte, item_bytes}
 use Rattle.rules.specs.Overlaps.{is_any}
 use Rattle.rules.specs.Meeting.{agree, meets, rules_meet}
 use Rattle.rules.specs.ItemsStand.{ItemStands, ItemsStand, SomeItem, RuleStands, SomeRule, OfItem, OfRules, counts}
-use Rattle.rules.specs.Laws.Stand.{rule_stands, stands_within, OneLeft, counts_more, counts_none, any_byte_there, item_moves}
+use Rattle.rules.specs.Laws.Stand.{rule_stands, OneLeft, counts_more, counts_none, any_byte_there, item_moves}
 
 -- The rule that was found.
 abbrev rule_in : RuleFound → Rule → Rule

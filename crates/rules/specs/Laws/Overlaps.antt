@@ -1,5 +1,5 @@
 -- When two rules overlap, and what the shown sequence says: document 02, C-11. Assumes nothing.
-use Rattle.std.specs.Prelude.{ℕ, zero, suc, ◌≤◌, ◌≡◌, refl, ◌⊎◌, ◌↔◌, Bool, true, not, ◌&&◌, ◌||◌, length, get_or, drop, eqb, leb, T}
+use Rattle.std.specs.Prelude.{ℕ, ◌≤◌, ◌≡◌, refl, ◌⊎◌, ◌↔◌, Bool, true, not, ◌||◌, length, get_or, drop, eqb, T}
 use Rattle.std.proofs.Common.{sym, ap, ◌∙◌, subst, inl, inr, ⊎_elim, T_not, eqb→eq}
 use Rattle.std.proofs.Math.Bool.{false}
 use mathlib.Core.List.{List, [], ◌∷◌, map}
@@ -9,8 +9,8 @@ use Rattle.std.proofs.Math.Facts.{and_yes, yes_and, or_yes}
 use Rattle.rows.specs.Notation.{if◌then◌else◌}
 use Rattle.rows.specs.Laws.Tests.{by_if}
 use Rattle.rows.specs.Words.{same_exactly, same_through}
-use Rattle.rules.specs.Rules.{Node, word_node, kind_node, group_node, list_node, Item, word, kind, group, list, any, Rule, good_word, good_kind, good_node, good_nodes, good_item, good_items, fits, matches_items, matches}
-use Rattle.rules.specs.RuleTable.{word_byte, kind_byte, group_byte, list_byte, any_byte, item_bytes}
+use Rattle.rules.specs.Rules.{Node, word_node, kind_node, group_node, list_node, Item, word, kind, group, list, any, Rule, good_node, good_nodes, good_item, good_items, fits, matches_items, matches}
+use Rattle.rules.specs.RuleTable.{word_byte, kind_byte, group_byte, list_byte, item_bytes}
 use Rattle.rules.specs.Overlaps.{Overlap, is_any, shown_item, shown}
 use Rattle.rules.specs.Meeting.{agree, meets, rules_meet}
 

@@ -1,14 +1,14 @@
 -- The search for the next pair of rules that overlap. Assumes nothing.
-use Rattle.std.specs.Prelude.{ℕ, suc, ◌+◌, ◌-◌, ◌≤◌, ◌<◌, max, ◌≡◌, refl, ◌⊎◌, ◌≢◌, Bool, true, false, List, [], ◌∷◌, length, get_or, T}
-use Rattle.std.proofs.Common.{sym, ap, ◌∙◌, subst, inl, inr, ⊎_elim, true≢false, arith, lt_of_not-le}
+use Rattle.std.specs.Prelude.{ℕ, ◌+◌, ◌≤◌, ◌<◌, max, ◌≡◌, refl, ◌⊎◌, Bool, true, false, List, get_or, T}
+use Rattle.std.proofs.Common.{sym, ap, ◌∙◌, subst, inl, inr, ⊎_elim, arith, lt_of_not-le}
 use Rattle.std.proofs.Math.Decide.{dec_le}
 use Rattle.std.proofs.Math.Facts.{yes_and}
-use Rattle.rules.specs.Rules.{Item, Rule, good_item, good_items}
-use Rattle.rules.specs.RuleTable.{TableFound, no_table, a_table, at_items, table_of}
-use Rattle.rules.specs.Overlaps.{Overlap, rule, After, Pair, FirstAfter, NoneAfter}
+use Rattle.rules.specs.Rules.{Rule, good_item, good_items}
+use Rattle.rules.specs.RuleTable.{TableFound, no_table, a_table, at_items}
+use Rattle.rules.specs.Overlaps.{rule, After, Pair, FirstAfter, NoneAfter}
 use Rattle.rules.specs.Meeting.{rules_meet}
 use Rattle.rules.specs.ItemsStand.{ItemsStand, no_more, the_rest, one_more, RuleStands, SomeRule, OfRules}
-use Rattle.rules.specs.TableStands.{RulesStand, RulesRead, OfTable, places_meet, FirstLater}
+use Rattle.rules.specs.TableStands.{RulesRead, OfTable, places_meet, FirstLater}
 use Rattle.rules.specs.Laws.Overlaps.{overlap_found, overlap_meets}
 use Rattle.rules.specs.Laws.Meeting.{items_there}
 

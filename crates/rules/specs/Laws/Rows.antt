@@ -1,18 +1,17 @@
 -- The nodes of a row's tree as rules see them, found by their records. Assumes nothing.
-use Rattle.std.specs.Prelude.{ℕ, suc, ◌+◌, ◌≤◌, ◌<◌, ◌≡◌, Bool, true, eqb, leb}
+use Rattle.std.specs.Prelude.{ℕ, ◌≤◌, ◌<◌, ◌≡◌, Bool}
 use Rattle.std.proofs.Math.Path.{refl, ap}
-use Rattle.std.proofs.Common.{sym, ◌∙◌, subst, arith, le-leb}
+use Rattle.std.proofs.Common.{sym, ◌∙◌, arith, le-leb}
 use Rattle.std.proofs.Math.Bool.{false, true≢false}
-use mathlib.Core.List.{List, [], ◌∷◌, map}
+use mathlib.Core.List.{List}
 use Rattle.std.proofs.Math.ListN.{length, get_or, length-map, get_or-map}
-use Rattle.rows.specs.Notation.{if◌then◌else◌}
-use Rattle.rows.specs.Kinds.{Identifier, End, NoToken}
+use Rattle.rows.specs.Kinds.{End}
 use Rattle.rows.specs.Format.{format}
 use Rattle.rows.specs.Records.{RowToken, found, kinds_of, places_of, word_in}
 use Rattle.reader.specs.Nodes.{NodeKind, t_node, g_node, b_node, l_node, a_node, Nodes, none, node}
 use Rattle.type_nodes.specs.Shapes.{NoNode, shape_of}
 use Rattle.type_nodes.specs.Nodes.{empty, shape}
-use Rattle.type_nodes.specs.Stands.{Stands, NodesStand, Of, Finds, token_of_first}
+use Rattle.type_nodes.specs.Stands.{NodesStand, Of, Finds, token_of_first}
 use Rattle.type_nodes.specs.declared.nodes.Lookup.{Lookup}
 use Rattle.type_nodes.specs.declared.nodes.Lookup.TheVariants.{Node, Nothing}
 use Rattle.type_nodes.specs.Laws.Siblings.{first, found_there, found_nothing}

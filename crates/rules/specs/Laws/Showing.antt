@@ -18,8 +18,8 @@ use Rattle.rules.specs.Rules.{Item, word, kind, group, list, any, Rule, good_ite
 use borrow.Author.Tests.{eq-eqb, ne_eqb}
 use Rattle.rules.specs.RuleTable.{RuleFound, no_rule, a_rule, ItemFound, no_item, item, any_byte, item_bytes, items_from, item_at, rest_at, front, with_item, most_items, after_two}
 use Rattle.rules.specs.Overlaps.{items_bytes, shown, shown_item, longest_shown}
-use Rattle.rules.specs.ItemsStand.{ItemStands, ItemsStand, SomeItem, ItemRoom, ItemsRoom, OfItem, OfItems, OfRules, RuleStands, SomeRule, StandsSomewhere, counts}
-use Rattle.rules.specs.Laws.Stand.{item_moves, one_item, one_list, counts_more, counts_none, stands_within, any_byte_there, OneLeft, by_case}
+use Rattle.rules.specs.ItemsStand.{ItemsStand, SomeItem, ItemRoom, ItemsRoom, OfItem, OfItems, OfRules, RuleStands, SomeRule, StandsSomewhere, counts}
+use Rattle.rules.specs.Laws.Stand.{item_moves, one_list, counts_more, counts_none, any_byte_there, OneLeft, by_case}
 use Rattle.rules.specs.Laws.Overlaps.{shown_good}
 use Rattle.rules.specs.Laws.Meeting.{TwoRules, two_begin, two_on, items_there, one_rule}
 use Rattle.rules.specs.Laws.Pairs.{stand_good}

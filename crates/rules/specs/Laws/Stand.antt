@@ -8,13 +8,13 @@ use Rattle.std.proofs.Math.Numerals.{add-two}
 use Rattle.std.proofs.Math.ListN.{length, get_or, take}
 use Rattle.std.proofs.Math.Seq.{take-append_seam}
 use Rattle.std.proofs.Math.Dec.{eqb, leb→le, eqb→eq}
-use Rattle.std.proofs.Math.Facts.{and_yes, eqb_no, eqb_yes}
+use Rattle.std.proofs.Math.Facts.{and_yes, eqb_no}
 use Rattle.rows.specs.Notation.{if◌then◌else◌}
 use Rattle.rows.specs.Laws.Tests.{by_if}
 use Rattle.rules.specs.Rules.{Item, word, kind, group, list, any, Rule, good_item, good_word, good_kind}
 use Rattle.rules.specs.RuleTable.{ItemFound, no_item, item, RuleFound, no_rule, a_rule, word_byte, kind_byte, group_byte, list_byte, any_byte, rest_byte, after_two, item_bytes, word_item, kind_item, item_at, rest_at, items_from, front, with_item}
 use Rattle.rules.specs.Overlaps.{is_any}
-use Rattle.rules.specs.ItemsStand.{ItemStands, ItemsStand, no_more, the_rest, one_more, SomeItem, SomeRule, counts}
+use Rattle.rules.specs.ItemsStand.{ItemStands, ItemsStand, no_more, the_rest, one_more, counts}
 
 -- What holds of both cases, each where its test says so, holds of a choice.
 pub by_case : (P : RuleFound → Type 0) (b : Bool) {x y : RuleFound} → (T b → P x) → (T (not b) → P y) → P (elim b as (λ _. RuleFound) [ true ↦ x | false ↦ y ])

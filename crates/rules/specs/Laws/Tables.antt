@@ -2,7 +2,7 @@
 use Prim.Native.Nat.{ℕ, zero, suc, ◌+◌, ◌-◌, ◌≤◌, ◌<◌}
 use Rattle.std.specs.Prelude.{◌≡◌, ◌≢◌, ◌&&◌, length, get_or, set, leb, eqb, T}
 use Rattle.std.proofs.Math.Path.{refl, sym, ap}
-use Rattle.std.proofs.Common.{◌∙◌, subst, arith, add-one, lt_of_not-le, length-append, length-set, get_or-set_other, leb→le, eqb→eq}
+use Rattle.std.proofs.Common.{◌∙◌, subst, arith, lt_of_not-le, length-append, length-set, get_or-set_other, leb→le}
 use Rattle.std.proofs.Math.Bool.{Bool, true, false}
 use mathlib.Core.List.{List, [], ◌∷◌, ◌++◌, append_assoc, append-nil}
 use Rattle.std.proofs.Math.Decide.{dec_le}
@@ -15,15 +15,13 @@ use Rattle.rows.specs.Notation.{if◌then◌else◌}
 use Rattle.rows.specs.Format.{short_bytes, at_kind}
 use Rattle.rows.specs.Records.{little_endian}
 use Rattle.rules.specs.Rules.{Item, Rule}
-use Rattle.rules.specs.RuleTable.{ItemFound, no_item, item, RuleFound, no_rule, a_rule, TableFound, no_table, a_table, word_byte, kind_byte, group_byte, list_byte, any_byte, rest_byte, rule_kind, at_items, most_items, most_rules, item_at, rest_at, front, with_item, with_rule, items_from, rule_length, rule_head, rule_at, rules_from, table_of}
+use Rattle.rules.specs.RuleTable.{ItemFound, no_item, item, RuleFound, no_rule, a_rule, TableFound, no_table, a_table, rest_byte, rule_kind, at_items, most_items, most_rules, item_at, rest_at, front, with_item, with_rule, items_from, rule_length, rule_head, rule_at, rules_from, table_of}
 use Rattle.rules.specs.Overlaps.{rule}
 use Rattle.rules.specs.ItemsStand.{item_read, RuleStands}
 use Rattle.rules.specs.Laws.Stand.{item_found}
-use Rattle.rules.specs.TableStands.{is_rule, rule_read, RulesStand, RulesRead, TableTold, ReadsTable}
+use Rattle.rules.specs.TableStands.{is_rule, rule_read, RulesStand, RulesRead}
 use Rattle.rules.specs.declared.items.ItemRead.{ItemRead}
-use Rattle.rules.specs.declared.items.ItemRead.TheVariants as ItemRead
 use Rattle.rules.specs.declared.table.RuleRead.{RuleRead}
-use Rattle.rules.specs.declared.table.RuleRead.TheVariants as RuleRead
 
 -- ---- what was read
 

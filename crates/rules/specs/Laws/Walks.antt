@@ -1,9 +1,9 @@
 -- What the calls report one after the other: exactly the pairs that overlap, in order, each once. Assumes nothing.
-use Rattle.std.specs.Prelude.{ℕ, ◌≤◌, ◌<◌, ◌≡◌, refl, ◌⊎◌, List, [], ◌∷◌}
-use Rattle.std.proofs.Common.{sym, ap, ◌∙◌, subst, inl, inr, ⊎_elim, arith, lt_of_not-le}
+use Rattle.std.specs.Prelude.{ℕ, ◌≡◌, List, [], ◌∷◌}
+use Rattle.std.proofs.Common.{◌∙◌, subst, inl, inr, ⊎_elim, arith, lt_of_not-le}
 use Rattle.std.proofs.Math.Decide.{dec_le}
 use Rattle.rules.specs.Rules.{Rule}
-use Rattle.rules.specs.Overlaps.{After, Pair, FirstAfter, Places, Walk, ends, goes}
+use Rattle.rules.specs.Overlaps.{After, Pair, Places, Walk, ends, goes}
 
 -- The pair (i, j) is reported.
 pub data Reported (i j : ℕ) : List Places → Type 0 where

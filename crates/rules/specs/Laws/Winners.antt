@@ -14,7 +14,7 @@ use Rattle.rules.specs.RuleTable.{at_items}
 use Rattle.rules.specs.Overlaps.{rule}
 use Rattle.rules.specs.RowSeen.{RowSeen, OfNodes}
 use Rattle.rules.specs.ItemsStand.{OfRule}
-use Rattle.rules.specs.TableStands.{RulesRead, OfTable, winner_of}
+use Rattle.rules.specs.TableStands.{RulesRead, OfTable}
 use Rattle.rules.specs.Laws.Pairs.{of_table, stands_at}
 
 module _ (rs : List Rule) (k : ℕ) (ns : List Node) where

@@ -33,7 +33,6 @@ use Rattle.structure.specs.Laws.Limits.{limited_entry, limited_yes, limited_both
 use Rattle.structure.specs.Laws.Tables.{word_taken, scope_taken, list_taken}
 use Rattle.structure.specs.Laws.Loops.{Run, turn_on, turn_end}
 use Rattle.structure.specs.Allowance.{verdict_within}
-use Rattle.structure.specs.declared.moves.Verdict.{Verdict}
 use Rattle.structure.specs.declared.moves.Verdict.TheVariants.{Holds}
 use Rattle.structure.specs.declared.moves.Inner.{Inner}
 use Rattle.structure.specs.declared.moves.TypeLoop.{TypeLoop}

@@ -1,6 +1,6 @@
 -- The walks over the parts between commas and over the arguments of a list: `every` of them, `whole` the check of the whole list.
 -- Assumes nothing.
-use Rattle.std.specs.Prelude.{ℕ, suc, ◌+◌, ◌≤◌, ◌<◌, ◌≡◌, refl, Bool, true, false, List, [], ◌∷◌, length}
+use Rattle.std.specs.Prelude.{ℕ, suc, ◌+◌, ◌≤◌, ◌<◌, ◌≡◌, refl, true, false, List, [], ◌∷◌, length}
 use Rattle.std.proofs.Common.{sym, ap, ◌∙◌, subst, true≢false, arith}
 use Rattle.reader.specs.Nodes.{Nodes, none, node, count}
 use Rattle.type_nodes.specs.Nodes.{empty, next, arguments_of}

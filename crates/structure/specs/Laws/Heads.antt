@@ -1,8 +1,8 @@
 -- The head of a Fortran type name, from the lookup of its first node. Assumes nothing.
-use Rattle.std.specs.Prelude.{ℕ, suc, ◌+◌, ◌<◌, ◌≡◌, refl, Bool, true, false, List}
-use Rattle.std.proofs.Common.{sym, ap, ◌∙◌, subst, arith}
+use Rattle.std.specs.Prelude.{ℕ, ◌≡◌, refl, Bool, false, List}
+use Rattle.std.proofs.Common.{sym, subst}
 use Rattle.rows.specs.Words.{ignoring_case}
-use Rattle.reader.specs.Nodes.{Nodes, none, node}
+use Rattle.reader.specs.Nodes.{Nodes, none}
 use Rattle.type_nodes.specs.Nodes.{next, shape, node_identifier}
 use Rattle.type_nodes.specs.Stands.{Stands, NodesStand, Finds}
 use Rattle.type_nodes.specs.Laws.Siblings.{first, there}

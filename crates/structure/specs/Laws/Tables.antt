@@ -1,6 +1,6 @@
 -- The arms of the tables of moves: where the tests before an arm fail and its own holds, the table gives the arm's move.
 -- Assumes nothing.
-use Rattle.std.specs.Prelude.{ℕ, suc, pred, ◌+◌, ◌≡◌, refl, Bool, false, ◌&&◌, ◌||◌, not}
+use Rattle.std.specs.Prelude.{ℕ, pred, ◌+◌, ◌≡◌, Bool, false, ◌&&◌, ◌||◌, not}
 use Rattle.std.proofs.Math.Numerals.{add-one}
 use Rattle.std.proofs.Math.Path.{sym, ap}
 use Rattle.std.proofs.Common.{◌∙◌, arith}

@@ -1,10 +1,8 @@
 -- `put_digits` meets its contract; the digits left fall. Assumes nothing.
 use Prim.Native.Nat.{◌-◌, ◌/◌}
 use native.Mathlib.Omega.{arith}
-use borrow.Author.Rules.{rules}
 use Rattle.text.specs.Text.{base}
 use Rattle.text.specs.Laws.Appending.{appended_as, appended_then, digits_last, digits_few, digits_more, digits_long}
-use Prim.Native.Nat.{ℕ, ◌<◌}
 use Rattle.text.proofs.+put_digits.Goals as goal
 
 pub returns-then-more-eq0 : goal.returns-then-more-eq0

@@ -1,9 +1,6 @@
 -- `put_little_endian` meets its contract; the bytes left fall. Assumes nothing.
-use native.Mathlib.Omega.{arith}
-use borrow.Author.Rules.{rules}
 use Rattle.text.specs.Laws.Appending.{appended_as, appended_then}
 use Rattle.text.specs.Laws.Records.{no_bytes, byte_first}
-use Prim.Native.Nat.{ℕ, ◌<◌}
 use Rattle.text.proofs.+put_little_endian.Goals as goal
 
 pub returns-then-width-eq0 : goal.returns-then-width-eq0

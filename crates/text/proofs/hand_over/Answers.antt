@@ -1,8 +1,6 @@
 -- `hand_over` meets its contract. Assumes nothing.
 use native.Mathlib.Omega.{arith}
-use borrow.Author.Rules.{rules}
 use Rattle.text.specs.Laws.Records.{is_handed, not_handed}
-use borrow.Author.Rules.{rules}
 use Rattle.text.proofs.hand_over.Goals as goal
 
 pub returns-then-buffer-output-clause-told : goal.returns-then-buffer-output-clause-told

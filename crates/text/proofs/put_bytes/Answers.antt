@@ -1,9 +1,6 @@
 -- `put_bytes` meets its contract. Assumes nothing.
-use Prim.Native.Nat.{◌-◌}
-use lib.ListN.{length}
 use native.Mathlib.Omega.{arith}
-use borrow.Author.Rules.{rules}
-use Rattle.text.specs.Laws.Appending.{Copying, copying_start, copying_on, copying_end}
+use Rattle.text.specs.Laws.Appending.{copying_start, copying_on, copying_end}
 use Rattle.text.proofs.put_bytes.Goals as goal
 
 pub loop-i-init : goal.loop-i-init

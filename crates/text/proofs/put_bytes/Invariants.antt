@@ -1,9 +1,7 @@
 -- `put_bytes` meets its contract. Assumes nothing.
 use Prim.Native.Nat.{◌-◌}
 use lib.ListN.{length}
-use native.Mathlib.Omega.{arith}
-use borrow.Author.Rules.{rules}
-use Rattle.text.specs.Laws.Appending.{Copying, copying_start, copying_on, copying_end}
+use Rattle.text.specs.Laws.Appending.{Copying}
 use Rattle.text.proofs.put_bytes.Given as goal
 
 abbrev pub invariant-loop-i : goal.invariant-loop-i

@@ -1,9 +1,7 @@
 -- `put_ended` meets its contract. Assumes nothing.
 use native.Mathlib.Omega.{arith}
-use borrow.Author.Rules.{rules}
 use Rattle.text.specs.Text.{ended}
 use Rattle.text.specs.Laws.Appending.{appended_then, decimal_long}
-use borrow.Author.Rules.{rules}
 use Rattle.text.proofs.put_ended.Goals as goal
 
 pub put_byte-requires : goal.put_byte-requires

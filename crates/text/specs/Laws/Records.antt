@@ -1,10 +1,9 @@
 -- Record numbers as bytes, which are read back as the number, and outputs handed to a caller's buffer.
 -- Assumes nothing.
-use Rattle.std.specs.Prelude.{ℕ, zero, suc, ◌+◌, ◌*◌, ◌-◌, ◌/◌, ◌%◌, ◌^◌, ◌≤◌, ◌<◌, ◌≡◌, refl, Bool, true, false, List, [], ◌∷◌, ◌++◌, length, take, drop, get_or}
+use Rattle.std.specs.Prelude.{ℕ, zero, suc, ◌-◌, ◌/◌, ◌%◌, ◌^◌, ◌≤◌, ◌<◌, ◌≡◌, refl, true, false, List, [], ◌∷◌, ◌++◌, length, take, drop, get_or}
 use Rattle.std.proofs.Common.{sym, ap, ◌∙◌, append_assoc, arith, add-zero, zero-add, pow-suc, div-lt_iff_lt-mul, add-one, sub-one, le-leb, length-take-le, drop-drop, drop_at, get_or-drop}
 use Rattle.std.proofs.Math.Nat.{mod-add-div}
 use Rattle.std.proofs.lemmas.Bool.{lt-leb}
-use Rattle.rows.specs.Notation.{if◌then◌else◌}
 use Rattle.rows.specs.Records.{byte_values, little_endian}
 use Rattle.text.specs.Text.{Appended, little_endian_bytes, fits, handed}
 use Rattle.text.specs.Laws.Appending.{appended_none, appended_whole}

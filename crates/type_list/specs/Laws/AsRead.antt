@@ -1,5 +1,5 @@
 -- A list beside the reading of one type name: that gives 13 exactly if the row has a cut, and else the two answer alike. Assumes nothing.
-use Rattle.std.specs.Prelude.{ℕ, zero, suc, ◌+◌, ◌≤◌, ◌<◌, ◌↔◌, List, [], ◌∷◌, drop}
+use Rattle.std.specs.Prelude.{ℕ, suc, ◌+◌, ◌≤◌, ◌<◌, ◌↔◌, List, [], ◌∷◌, drop}
 use Rattle.std.proofs.Math.Path.{◌≡◌, refl, ap, subst}
 use Rattle.std.proofs.Common.{sym, ◌∙◌, append-nil}
 use native.Mathlib.Omega.{arith}
@@ -13,17 +13,16 @@ use Rattle.rows.specs.declared.answer.TypeNameError.{TypeNameError}
 use Rattle.rows.specs.declared.answer.TypeNameError.TheVariants.{TopLevelComma}
 use Rattle.rows.specs.declared.answer.Answer.TheVariants as Answer
 use Rattle.rows.specs.declared.head.Head.{Head}
-use Rattle.prescan.specs.Prescan.{start}
 use Rattle.reader.specs.Nodes.{count, records}
 use Rattle.type_name.specs.FileRow.{HeadRow, passes, on_pass, file_row}
 use Rattle.type_name.specs.Answers.{RowAnswer, answer_of, row_answer, outcome, answer_in, answer, filled, buffer_in, final_buffer}
 use Rattle.type_name.specs.Answers
 use Rattle.type_name.specs.Laws.Fields.{is_refused, number_in}
 use Rattle.type_list.specs.Parts.{cut_number, part_length, parts}
-use Rattle.type_list.specs.ListAnswers.{PartsAnswer, behind, on_part, parts_answer, row_parts_answer, list_outcome, list_answer_in, list_answer, nodes_in_all, records_in_all, list_buffer_in, list_buffer}
+use Rattle.type_list.specs.ListAnswers.{behind, on_part, parts_answer, row_parts_answer, list_outcome, list_answer_in, list_answer, nodes_in_all, records_in_all, list_buffer_in, list_buffer}
 use Rattle.type_list.specs.ListPromises.{as_list, GivesCut}
 use Rattle.type_list.specs.Laws.Slices.{kinds_length}
-use Rattle.type_list.specs.Laws.Commas.{CutAt, comma_is_cut}
+use Rattle.type_list.specs.Laws.Commas.{comma_is_cut}
 use Rattle.type_list.specs.Laws.Cuts.{part_cut, part_whole, parts_cut, parts_whole, over_parts}
 use Rattle.type_list.specs.Laws.PartAnswers.{prescan_answers}
 use Rattle.type_list.specs.Laws.Promised.{RowUncut, row_uncut}

@@ -1,8 +1,8 @@
 -- Where the prescan gives 13: at a comma outside brackets and angles, after tokens that are no fault; and that it gives it there. Assumes nothing.
-use Prim.Native.Nat.{ℕ, zero, suc, ◌+◌, ◌-◌, ◌<◌}
+use Prim.Native.Nat.{ℕ, suc, ◌+◌, ◌-◌, ◌<◌}
 use Rattle.std.proofs.Math.Path.{◌≡◌, refl, sym, ap, subst}
 use Rattle.std.proofs.Common.{◌∙◌}
-use Rattle.std.specs.Prelude.{Bool, true, false, ◌&&◌, get_or, take}
+use Rattle.std.specs.Prelude.{◌&&◌, get_or, take}
 use Rattle.std.proofs.Math.Bool.{not}
 use mathlib.Core.List.{List, [], ◌∷◌, ◌++◌}
 use native.Mathlib.Omega.{arith}
@@ -14,9 +14,8 @@ use Rattle.rows.specs.Kinds.{Comma, Less, Greater, ShiftRight, End, NoToken}
 use Rattle.rows.specs.Refusals.{refusal_of}
 use Rattle.rows.specs.Laws.Tests.{by_if}
 use Rattle.rows.specs.declared.answer.Delimiter.{Delimiter}
-use Rattle.rows.specs.declared.answer.Open.TheVariants.{Opened}
 use Rattle.rows.specs.declared.answer.TypeNameError.{TypeNameError}
-use Rattle.rows.specs.declared.answer.TypeNameError.TheVariants.{TopLevelComma, UnexpectedClosingDelimiter}
+use Rattle.rows.specs.declared.answer.TypeNameError.TheVariants.{TopLevelComma}
 use Rattle.prescan.specs.Matcher.{Role, opens, closes, neither, role, same, Opener}
 use Rattle.prescan.specs.Prescan.{Scan, Scanned, passed, refused, start, close, opens_angle, outside_brackets, no_bracket, in_role, take_token, scan, valid_start, valid_end, row_end, at_row_end, prescan}
 use Rattle.type_list.specs.Parts.{cut_number}

@@ -1,6 +1,6 @@
 -- Cutting a row: the first part and the parts behind it; the parts are what `CutInto` says, and nothing else is. Assumes nothing.
-use Prim.Native.Nat.{ℕ, zero, suc, ◌+◌, ◌≤◌, ◌<◌}
-use Rattle.std.specs.Prelude.{◌≡◌, ◌⊎◌, Bool, get_or, drop}
+use Prim.Native.Nat.{ℕ, zero, suc, ◌≤◌, ◌<◌}
+use Rattle.std.specs.Prelude.{◌≡◌, ◌⊎◌, Bool, drop}
 use Rattle.std.proofs.Math.Path.{refl, ap}
 use Rattle.std.proofs.Common.{sym, ◌∙◌, subst, ⊎_elim, arith, lt_of_not-le, length-append, take_all, drop_at}
 use Rattle.std.proofs.Math.Logic.{inl, inr}
@@ -16,11 +16,10 @@ use Rattle.rows.specs.Kinds.{Comma}
 use Rattle.rows.specs.Records.{RowToken, kinds_of}
 use Rattle.rows.specs.Refusals.{refusal_of}
 use Rattle.rows.specs.declared.answer.TypeNameError.{TypeNameError}
-use Rattle.rows.specs.declared.answer.TypeNameError.TheVariants.{TopLevelComma}
 use Rattle.prescan.specs.Prescan.{Scanned, passed, refused, start, prescan}
 use Rattle.type_list.specs.Parts.{cut_number, up_to_cut, first_part, part_length, parts_in, parts}
 use Rattle.type_list.specs.Cutting.{EndsOutside, NoCommaOutside, PartBefore, CutInto}
-use Rattle.type_list.specs.Laws.Slices.{kinds_take, kinds_drop, kinds_length, split_token}
+use Rattle.type_list.specs.Laws.Slices.{kinds_take, kinds_length, split_token}
 use Rattle.type_list.specs.Laws.Commas.{CutAt, NoCut, prescan_cut, scanned_no_cut, comma_is_cut}
 
 -- ---- the first part

@@ -1,22 +1,21 @@
 -- From what the parts come to to the answer of a file and its final buffer. Assumes nothing.
-use Rattle.std.specs.Prelude.{ℕ, ◌+◌, ◌*◌, ◌-◌, ◌≤◌, ◌≡◌, List, [], ◌∷◌, ◌++◌, take, replicate}
+use Rattle.std.specs.Prelude.{ℕ, ◌*◌, ◌≡◌, List, [], ◌∷◌, take}
 use Rattle.std.proofs.Math.Path.{refl, ap}
-use Rattle.std.proofs.Common.{sym, ◌∙◌, subst, arith, length-append}
+use Rattle.std.proofs.Common.{sym, ◌∙◌, arith, length-append}
 use Rattle.std.proofs.Math.Nat.{sub-zero}
 use Rattle.std.proofs.Math.ListN.{length, length-take}
 use Rattle.rows.specs.Format.{format}
-use Rattle.rows.specs.Records.{RowToken, kinds_of, words_of}
 use Rattle.rows.specs.declared.answer.TypeNameError.{TypeNameError}
 use Rattle.rows.specs.declared.head.Head.{Head}
-use Rattle.reader.specs.Nodes.{Nodes, count, node_width, records}
+use Rattle.reader.specs.Nodes.{Nodes, node_width, records}
 use Rattle.reader.specs.Laws.NodeNumbers.{three_each}
 use Rattle.type_name.specs.FileRow.{passes, untouched, on_pass, file_row}
 use Rattle.type_name.specs.Answers.{filled}
 use Rattle.type_name.specs.EntrySays.{TreeFits, settled, FileRowTaken}
 use Rattle.type_list.specs.ListAnswers.{PartsAnswer, accepted, refused, row_parts_answer, list_outcome, list_answer_in, list_answer, list_buffer_in, list_buffer, nodes_in_all, records_in_all, no_part}
-use Rattle.type_list.specs.ListSays.{PartsInFront, PartsRead, ReadsParts, answer_to, TokensOf, as_one, ListTold}
+use Rattle.type_list.specs.ListSays.{PartsInFront, PartsRead, answer_to, TokensOf, as_one, ListTold}
 use Rattle.type_list.specs.declared.answer.ListAnswer.{ListAnswer}
-use Rattle.type_list.specs.declared.answer.ListAnswer.TheVariants.{Accepted, Refused}
+use Rattle.type_list.specs.declared.answer.ListAnswer.TheVariants.{Refused}
 
 -- Three numbers a node.
 pub three_in_all : (xs : List Nodes) → length (records_in_all xs) ≡ node_width * nodes_in_all xs

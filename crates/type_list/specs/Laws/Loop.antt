@@ -1,5 +1,5 @@
 -- The loop over a row's parts: the trees taken so far, and what is left. Assumes nothing.
-use Rattle.std.specs.Prelude.{ℕ, suc, ◌+◌, ◌*◌, ◌-◌, ◌≤◌, ◌<◌, ◌≡◌, Bool, true, false, drop, ltb}
+use Rattle.std.specs.Prelude.{ℕ, suc, ◌+◌, ◌*◌, ◌-◌, ◌≤◌, ◌<◌, ◌≡◌, drop}
 use Rattle.std.proofs.Math.Path.{refl, sym, ap, subst}
 use Rattle.std.proofs.Common.{◌∙◌, lt_of_not-le, lt-ltb, le-ltb, length-drop, take_all, drop-drop}
 use mathlib.Core.List.{List, [], ◌∷◌, ◌++◌, append_assoc, append-nil}
@@ -10,20 +10,15 @@ use Rattle.rows.specs.Records.{RowToken, kinds_of, words_of}
 use Rattle.rows.specs.declared.answer.TypeNameError.{TypeNameError}
 use Rattle.rows.specs.declared.head.Head.{Head}
 use Rattle.reader.specs.Nodes.{Nodes, count, node_width, records}
-use Rattle.type_name.specs.FileRow.{passes}
-use Rattle.type_name.specs.Answers.{RowAnswer, answer_of}
-use Rattle.type_name.specs.Answers
 use Rattle.type_name.specs.EntrySays.{RowReady}
 use Rattle.type_list.specs.Parts.{part_length, parts}
 use Rattle.type_list.specs.ListAnswers.{PartsAnswer, accepted, refused, behind, on_part, parts_answer, list_answer_in, nodes_in_all, records_in_all}
-use Rattle.type_list.specs.ListSays.{next_length, next_answer, PartReady, PartAccepted, PartTaken, TakesPart, parts_from, behind_all, PartsInFront, PartsRead, answer_to, TokensOf, ReadsParts}
+use Rattle.type_list.specs.ListSays.{next_length, next_answer, PartReady, TakesPart, parts_from, behind_all, PartsRead, answer_to, TokensOf, ReadsParts}
 use Rattle.type_list.specs.Laws.Slices.{kinds_take, kinds_drop, kinds_length, words_take, words_drop}
-use Rattle.type_list.specs.Laws.Cuts.{part_within, parts_cut, parts_whole}
-use Rattle.type_list.specs.declared.answer.ListAnswer.{ListAnswer}
+use Rattle.type_list.specs.Laws.Cuts.{parts_cut, parts_whole}
 use Rattle.type_list.specs.declared.answer.ListAnswer.TheVariants as List
 use Rattle.type_list.specs.declared.parts.Taken.{Taken}
 use Rattle.type_list.specs.declared.parts.PartStep.{PartStep}
-use Rattle.type_list.specs.declared.parts.PartStep.TheVariants as PartStep
 
 -- ---- the next part and those behind it
 

@@ -1,33 +1,30 @@
 -- From what the code answers to a part to the definition's answer to it. Assumes nothing.
-use Rattle.std.specs.Prelude.{ℕ, suc, ◌+◌, ◌*◌, ◌-◌, ◌≤◌, ◌<◌, List, [], ◌++◌, length, drop, leb, eqb}
+use Rattle.std.specs.Prelude.{ℕ, ◌+◌, ◌*◌, ◌-◌, ◌≤◌, List, ◌++◌, length, drop, leb, eqb}
 use Rattle.std.proofs.Math.Path.{◌≡◌, refl, sym, ap}
-use Rattle.std.proofs.Common.{◌∙◌, subst, length-take, length-drop, take_all, length-take-le}
+use Rattle.std.proofs.Common.{◌∙◌, subst, length-drop, take_all, length-take-le}
 use native.Mathlib.Omega.{arith}
 use borrow.Author.Tests.{le-leb}
 use Rattle.std.proofs.Math.ListN.{take}
 use Rattle.std.proofs.Math.Dec.{leb→le}
-use Rattle.rows.specs.Format.{most_tokens}
 use Rattle.rows.specs.Languages.{Cpp}
-use Rattle.rows.specs.Refusals.{refusal_of}
 use Rattle.rows.specs.Laws.Tests.{by_if}
 use Rattle.rows.specs.declared.answer.Answer.{Answer}
-use Rattle.rows.specs.declared.answer.Answer.TheVariants as Answer
 use Rattle.rows.specs.declared.answer.TypeNameError.{TypeNameError}
 use Rattle.rows.specs.declared.answer.TypeNameError.TheVariants.{AllowancePassed}
 use Rattle.rows.specs.declared.head.Head.{Head}
 use Rattle.prescan.specs.Prescan.{Scanned, passed, prescan}
 use Rattle.prescan.specs.Prescan
-use Rattle.reader.specs.Nodes.{Nodes, count, node_width, numbers_per_token, records}
+use Rattle.reader.specs.Nodes.{Nodes, count, node_width, records}
 use Rattle.reader.specs.Laws.Derived.{row_derived}
 use Rattle.reader.specs.Laws.Bounds.{two_nodes}
 use Rattle.reader.specs.Laws.Buffer.{lent, given_back, after_front}
 use Rattle.type_name.specs.FileRow.{passes}
 use Rattle.type_name.specs.Answers.{RowAnswer, accepted, refused, on_tree, after_prescan, row_tree, tree_checked, unlimited, row_steps, answer_within, answer_of, answer_in}
-use Rattle.type_name.specs.EntrySays.{ReadsRow, RowReady, InFront}
+use Rattle.type_name.specs.EntrySays.{ReadsRow, RowReady}
 use Rattle.type_name.specs.Laws.Fields.{is_refused, nodes_in, steps_in, bounds}
 use Rattle.type_name.specs.Laws.Total.{PlacedFrom, read_placed_from}
 use Rattle.type_name.specs.Laws.AcceptedRow.{RowComes, row_comes, accepted_read}
-use Rattle.type_list.specs.Parts.{up_to_cut, first_part, part_length}
+use Rattle.type_list.specs.Parts.{first_part, part_length}
 use Rattle.type_list.specs.ListSays.{length_by, part_answer, ReadsPart, WithAllowance, PartReady, next_length, next_answer, PartAccepted}
 use Rattle.type_list.specs.Laws.Cuts.{no_cut_at, part_within}
 use Rattle.type_list.specs.declared.part.Part.{Part}

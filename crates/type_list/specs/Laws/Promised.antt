@@ -3,7 +3,7 @@ use Prim.Native.Nat.{ℕ, zero, suc, ◌+◌, ◌*◌, ◌-◌, ◌≤◌, ◌<�
 use Rattle.std.proofs.Math.Path.{◌≡◌, refl, sym, ap, subst}
 use Rattle.std.proofs.Common.{◌∙◌, inl, inr, ⊎_elim, lt_of_not-le, get_or-append-add}
 use Rattle.std.specs.Prelude.{◌⊎◌, ◌↔◌, take, drop, leb}
-use mathlib.Core.List.{List, [], ◌∷◌, ◌++◌, map}
+use mathlib.Core.List.{List, [], ◌∷◌, ◌++◌}
 use native.Mathlib.Omega.{arith}
 use Rattle.std.proofs.Math.Decide.{dec_le}
 use Rattle.std.proofs.Math.Nat.{sub-zero}
@@ -20,19 +20,18 @@ use Rattle.rows.specs.declared.head.Head.{Head}
 use Rattle.prescan.specs.Prescan.{Scanned, passed, prescan}
 use Rattle.prescan.specs.Prescan
 use Rattle.reader.specs.Nodes.{t_node, Nodes, none, node, number, count, node_width, records, kind_of, token_of}
-use Rattle.reader.specs.Laws.NodeNumbers.{three_each, numbered, says}
+use Rattle.reader.specs.Laws.NodeNumbers.{three_each}
 use Rattle.type_name.specs.FileRow.{HeadRow, Outcome, untouched, passes, on_pass, file_row}
 use Rattle.type_name.specs.Answers.{RowAnswer, unlimited, row_steps, answer_within, answer_of, row_answer, outcome, answer_in, answer, filled, buffer_in, final_buffer}
 use Rattle.type_name.specs.Answers
-use Rattle.type_name.specs.Promises.{last_untouched}
 use Rattle.type_name.specs.Laws.Fields.{bounds}
-use Rattle.type_name.specs.Laws.FileRow.{Has, Comes, file_comes}
+use Rattle.type_name.specs.Laws.FileRow.{Comes, file_comes}
 use Rattle.type_name.specs.Laws.Total.{PlacedFrom, RowPlaced, Unspent, unlimited_unspent, row_placed, read_placed_from}
 use Rattle.type_name.specs.Laws.AcceptedRow.{RowAccepted, RowComes, row_comes, row_stable, accepted_read}
 use Rattle.type_name.specs.Laws.Promised.{nested, brackets, written_as}
 use Rattle.type_list.specs.Parts.{cut_number, part_length, parts}
-use Rattle.type_list.specs.ListAnswers.{PartsAnswer, accepted, refused, behind, on_part, parts_answer, row_parts_answer, list_outcome, no_part, list_answer_in, list_answer, nodes_in_all, records_in_all, list_buffer_in, list_buffer}
-use Rattle.type_list.specs.ListPromises.{PartTree, parts_of, trees_of, steps_in_all, HoldsAlone, PartRead, EachRead, Begins, AcceptedList, RefusedPart, RefusedList, ListPromised}
+use Rattle.type_list.specs.ListAnswers.{PartsAnswer, accepted, refused, behind, on_part, parts_answer, row_parts_answer, list_outcome, list_answer_in, list_answer, nodes_in_all, records_in_all, list_buffer_in, list_buffer}
+use Rattle.type_list.specs.ListPromises.{PartTree, parts_of, trees_of, steps_in_all, HoldsAlone, PartRead, EachRead, Begins, AcceptedList, RefusedList, ListPromised}
 use Rattle.type_list.specs.Laws.Cuts.{part_whole, part_before, over_parts}
 use Rattle.type_list.specs.Laws.Slices.{kinds_length}
 use Rattle.type_list.specs.Laws.Commas.{NoCut, scanned_no_cut}

@@ -1,5 +1,5 @@
 -- From what the row module says to the answer of a file. Assumes nothing.
-use Rattle.std.specs.Prelude.{ℕ, suc, ◌*◌, ◌≤◌, ◌<◌, ◌≡◌, refl, List, [], ◌∷◌, map, take}
+use Rattle.std.specs.Prelude.{ℕ, suc, ◌≤◌, ◌≡◌, refl, List, [], ◌∷◌, map, take}
 use Rattle.std.proofs.Math.Path.{sym, ap}
 use Rattle.std.proofs.Common.{◌∙◌, subst, arith}
 use Rattle.std.proofs.Math.ListN.{length}
@@ -10,20 +10,15 @@ use Rattle.rows.specs.RowRead.{Filled, InArrays, RowAnswered, Reads}
 use Rattle.rows.specs.RowRead as Rows
 use Rattle.rows.specs.Laws.RowFacts.{few_tokens}
 use Rattle.rows.specs.declared.row.RowRead.{RowRead}
-use Rattle.rows.specs.declared.row.RowRead.TheVariants as RowRead
 use Rattle.rows.specs.declared.answer.Answer.{Answer}
 use Rattle.rows.specs.declared.answer.Answer.TheVariants.{Refused}
 use Rattle.rows.specs.declared.answer.TypeNameError.{TypeNameError}
 use Rattle.rows.specs.declared.head.Head.{Head}
-use Rattle.rows.specs.declared.head.FileHead.{FileHead}
-use Rattle.rows.specs.declared.head.FileHead.TheVariants as FileHead
-use Rattle.reader.specs.Nodes.{numbers_per_token}
-use Rattle.type_name.specs.FileRow.{HeadRow, Outcome, untouched, passes, on_pass, file_row}
-use Rattle.type_name.specs.Answers.{RowAnswer, answer_of, row_answer, outcome, answer_in, answer, buffer_in, final_buffer}
+use Rattle.type_name.specs.FileRow.{untouched, passes, on_pass, file_row}
+use Rattle.type_name.specs.Answers.{answer_of, row_answer, outcome, answer_in, answer, buffer_in, final_buffer}
 use Rattle.type_name.specs.EntrySays.{FileRowTaken, FileAnswered, ReadsFile, RowReady}
 use Rattle.type_name.specs.Promises.{Promised}
 use Rattle.type_name.specs.declared.file_row.FileRow.{FileRow}
-use Rattle.type_name.specs.declared.file_row.FileRow.TheVariants as FileRow
 use Rattle.type_name.specs.Laws.FileRow.{Has, Comes, file_comes}
 use Rattle.type_name.specs.Laws.Promised.{promised}
 

@@ -1,7 +1,7 @@
 -- What a file's head and row come of, and which refusals touch nothing. Assumes nothing.
 use Rattle.std.specs.Prelude.{ℕ, ◌*◌, ◌≤◌, ◌<◌, ◌≡◌, Bool, true, false, not, List, get_or, T, ltb}
 use Rattle.std.proofs.Math.Path.{refl}
-use Rattle.std.proofs.Common.{sym, ap, subst, ◌∙◌, arith}
+use Rattle.std.proofs.Common.{subst, arith}
 use borrow.Author.Tests.{lt-ltb, le-ltb, ltb-false}
 use Rattle.std.proofs.Math.ListN.{length}
 use Rattle.rows.specs.Format.{format, head_length, at_language, at_standard, most_tokens, meant}
@@ -15,7 +15,6 @@ use Rattle.rows.specs.declared.head.Meaning.{Meaning}
 use Rattle.rows.specs.declared.head.Meaning.TheVariants.{Means, Unknown}
 use Rattle.rows.specs.declared.head.Head.{Head}
 use Rattle.rows.specs.declared.head.FileHead.{FileHead}
-use Rattle.rows.specs.declared.head.FileHead.TheVariants as FileHead
 use Rattle.reader.specs.Nodes.{numbers_per_token}
 use Rattle.type_name.specs.FileRow.{HeadRow, Outcome, untouched, passes, on_pass, head_read, row_read, with_room, file_row}
 use Rattle.type_name.specs.EntrySays.{HeadRead}

@@ -1,12 +1,12 @@
 -- The tree buffer at the end: the tree that stands in front of it, and zeros. Assumes nothing.
-use Rattle.std.specs.Prelude.{ℕ, ◌-◌, ◌*◌, ◌≤◌, ◌≡◌, List, [], ◌++◌, length, take, drop, replicate}
+use Rattle.std.specs.Prelude.{ℕ, ◌-◌, ◌*◌, ◌≤◌, ◌≡◌, List, [], length, drop, replicate}
 use Rattle.std.proofs.Math.Path.{refl}
-use Rattle.std.proofs.Common.{sym, ap, ◌∙◌, subst, append-nil, arith, length-take, length-drop, drop_of_length-le}
+use Rattle.std.proofs.Common.{ap, ◌∙◌, subst, append-nil, arith, length-take, length-drop, drop_of_length-le}
 use Rattle.std.proofs.Math.Nat.{sub-zero}
 use Rattle.rows.specs.declared.answer.Answer.{Answer}
 use Rattle.rows.specs.declared.answer.Answer.TheVariants.{Accepted, Refused}
 use Rattle.rows.specs.declared.answer.TypeNameError.{TypeNameError}
-use Rattle.reader.specs.Nodes.{count, node_width, records}
+use Rattle.reader.specs.Nodes.{count, node_width}
 use Rattle.reader.specs.Laws.NodeNumbers.{three_each}
 use Rattle.reader.specs.Laws.Buffer.{lent, given_back, holds}
 use Rattle.type_name.specs.FileRow.{passes}

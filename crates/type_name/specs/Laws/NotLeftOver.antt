@@ -1,7 +1,7 @@
 -- Refusal 23 never comes: of a row that a file gives, every token is read and no half of a `>>` is left. Assumes nothing.
-use Rattle.std.specs.Prelude.{ℕ, ◌≤◌, ◌<◌, ◌≡◌, Bool, true, ◌&&◌, List, length, eqb}
+use Rattle.std.specs.Prelude.{ℕ, ◌<◌, ◌≡◌, Bool, true, List, length, eqb}
 use Rattle.std.proofs.Math.Path.{refl}
-use Rattle.std.proofs.Common.{◌∙◌, arith}
+use Rattle.std.proofs.Common.{arith}
 use borrow.Author.Tests.{eq-eqb}
 use Rattle.rows.specs.Languages.{Cpp}
 use Rattle.rows.specs.Format.{format, head_length, most_tokens}
@@ -17,12 +17,12 @@ use Rattle.prescan.specs.Prescan
 use Rattle.prescan.specs.Laws.Numbered.{prescan_numbered}
 use Rattle.prescan.specs.Laws.Numbered
 use Rattle.reader.specs.Nodes.{Nodes}
-use Rattle.reader.specs.Reading.{Got, got, bad, Fault, refusal, reading}
+use Rattle.reader.specs.Reading.{Got, got, bad, Fault, reading}
 use Rattle.reader.specs.Laws.Tokens.{KindsKnown}
 use Rattle.reader.specs.Laws.Derived.{row_derived}
 use Rattle.reader.specs.Laws.Bounds.{nothing_left}
 use Rattle.reader.specs.Laws.Refusals.{Refuses, too_deep, not_closed, wrong_closer, refuses}
-use Rattle.type_name.specs.Answers.{RowAnswer, refused, refusal_of_fault, whole_row, tree_of, after_prescan, row_tree, unlimited, answer_of, row_answer, outcome, answer}
+use Rattle.type_name.specs.Answers.{RowAnswer, refusal_of_fault, whole_row, tree_of, after_prescan, row_tree, unlimited, answer_of, row_answer, outcome, answer}
 use Rattle.type_name.specs.Laws.Fields.{bounds}
 use Rattle.type_name.specs.Laws.Refusals.{Refusals, checked_refusals, limited_refusals, file_refusals, answered_refusals}
 use Rattle.type_name.specs.Laws.RowTokens.{kinds_known}

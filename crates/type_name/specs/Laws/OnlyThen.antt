@@ -1,6 +1,6 @@
 -- "25 step count would pass the allowance, and only then": where 25 is answered, the row's steps pass the file's allowance.
 -- Assumes nothing.
-use Rattle.std.specs.Prelude.{ℕ, ◌<◌, ◌≡◌, refl, List, leb}
+use Rattle.std.specs.Prelude.{ℕ, ◌<◌, ◌≡◌, List, leb}
 use Rattle.std.proofs.Common.{sym, inl, inr, arith}
 use Rattle.std.proofs.Math.Path.{ap}
 use Rattle.std.proofs.Math.Dec.{nleb→lt}
@@ -15,7 +15,7 @@ use Rattle.rows.specs.declared.head.FileHead.TheVariants as FileHead
 use Rattle.type_name.specs.FileRow.{HeadRow, Outcome, untouched, passes, on_pass, file_row}
 use Rattle.type_name.specs.Answers.{RowAnswer, accepted, refused, unlimited, row_steps, answer_within, answer_of, row_answer, outcome, answer_in, answer}
 use Rattle.type_name.specs.Laws.Fields.{number_in, steps_in, bounds}
-use Rattle.type_name.specs.Laws.FileRow.{Has, Comes, file_comes}
+use Rattle.type_name.specs.Laws.FileRow.{Comes, file_comes}
 use Rattle.type_name.specs.Laws.Total.{Unspent, unlimited_unspent}
 
 -- The file holds a row whose steps, counted without an allowance, pass the file's; and these steps are the allowance.

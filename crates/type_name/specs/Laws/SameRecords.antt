@@ -7,9 +7,8 @@ use Rattle.std.proofs.Common.{sym, ◌∙◌, arith, get_or-drop, drop-drop}
 use Rattle.std.proofs.Math.Dec.{leb}
 use Rattle.rows.specs.Format.{short_bytes, at_kind, at_span, span_bytes, token_length}
 use Rattle.rows.specs.declared.format.Format.{Format}
-use Rattle.rows.specs.Records.{little_endian, Tokens, malformed, tokens, Row, row, length_at, kind_at, span_start_at, span_end_at, word_at, word_fits, length_fits, well_formed, found, after_record, tokens_from, to_end, records_from}
+use Rattle.rows.specs.Records.{little_endian, Tokens, malformed, tokens, length_at, kind_at, span_start_at, span_end_at, word_at, word_fits, length_fits, well_formed, found, after_record, tokens_from, to_end, records_from}
 use Rattle.rows.specs.declared.token.TokenRecord.{TokenRecord}
-use Rattle.rows.specs.declared.token.TokenRecord.TheVariants as TokenRecord
 
 -- Two files with the same bytes from offset n on, of one length.
 module _ (f : Format) (file file' : List ℕ) (n : ℕ) (same : drop n file' ≡ drop n file) (long : length file' ≡ length file) where

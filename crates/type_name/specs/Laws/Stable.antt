@@ -1,7 +1,7 @@
 -- An accepted row comes back: "With the same flag the same tree, node count and steps come back under every allowance not below those steps, together
 -- with the same or any later standard of that language."
 -- Assumes nothing.
-use Rattle.std.specs.Prelude.{ℕ, ◌*◌, ◌≤◌, ◌≡◌, refl, Bool, true, false, not, ◌&&◌, List, length, get_or, T, leb, ltb}
+use Rattle.std.specs.Prelude.{ℕ, ◌≤◌, ◌≡◌, refl, Bool, true, false, not, ◌&&◌, List, length, get_or, T, leb, ltb}
 use Rattle.std.proofs.Math.Path.{ap, subst}
 use Rattle.std.proofs.Common.{◌∙◌, arith, length-drop, leb→le}
 use Rattle.rows.specs.Format.{format, head_length, at_language, at_standard, most_tokens, meant}

@@ -1,6 +1,6 @@
 -- The walk that finds a node of a shape. Assumes nothing.
-use Rattle.std.specs.Prelude.{ℕ, suc, ◌+◌, ◌*◌, ◌≤◌, ◌<◌, ◌≡◌, refl, Bool, true, false, ◌||◌, List, length, eqb}
-use Rattle.std.proofs.Common.{sym, ap, ◌∙◌, subst, true≢false, arith, eq-eqb, ne_eqb}
+use Rattle.std.specs.Prelude.{ℕ, suc, ◌+◌, ◌*◌, ◌≤◌, ◌<◌, ◌≡◌, refl, true, false, ◌||◌, List, length, eqb}
+use Rattle.std.proofs.Common.{sym, ◌∙◌, subst, true≢false, arith, eq-eqb, ne_eqb}
 use Rattle.reader.specs.Nodes.{Nodes, none, node, count, node_width, numbers_bound}
 use Rattle.type_nodes.specs.Nodes.{empty, next, shape}
 use Rattle.type_nodes.specs.AbstractDeclarators.{any}

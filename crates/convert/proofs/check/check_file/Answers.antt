@@ -1,11 +1,9 @@
 -- `check_file` meets its contract. Assumes nothing.
 use mathlib.Core.Path.{sym, ap, ◌∙◌}
 use native.Mathlib.Omega.{arith}
-use borrow.Author.Rules.{rules}
 use Rattle.convert.specs.ConvertSays.{checked_in}
 use Rattle.convert.specs.Laws.Back.{head_is}
 use Rattle.convert.specs.Laws.CheckLoop.{head_refused, head_formed}
-use borrow.Author.Rules.{rules}
 use Rattle.convert.proofs.check.check_file.Goals as goal
 
 pub check_records-requires : goal.check_records-requires

@@ -1,12 +1,9 @@
 -- `check_records` meets its contract. The loop's invariant: the records that are left decide, with what was counted before. Assumes nothing.
-use Prim.Native.Nat.{◌-◌}
 use mathlib.Core.Path.{sym, ◌∙◌}
 use native.Mathlib.Omega.{arith}
-use borrow.Author.Rules.{rules}
-use lib.ListN.{length}
 use Rattle.rows.specs.Records.{span_at}
 use Rattle.rows.specs.Laws.Tokens.{formed_fits}
-use Rattle.convert.specs.Laws.CheckLoop.{CheckLoop, check_begins, check_full, check_malformed, check_token, check_ends}
+use Rattle.convert.specs.Laws.CheckLoop.{check_begins, check_full, check_malformed, check_token, check_ends}
 use Rattle.convert.proofs.check.check_records.Goals as goal
 
 pub loop-at-init : goal.loop-at-init

@@ -1,8 +1,6 @@
 -- `hand_over` meets its contract. Assumes nothing.
 use native.Mathlib.Omega.{arith}
-use borrow.Author.Rules.{rules}
 use Rattle.convert.specs.Laws.WriteLoop.{short_answer, short_output, written_answer, written_output}
-use borrow.Author.Rules.{rules}
 use Rattle.convert.proofs.entry.hand_over.Goals as goal
 
 pub returns-then-output-bytes : goal.returns-then-output-bytes

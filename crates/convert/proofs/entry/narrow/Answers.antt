@@ -1,13 +1,10 @@
 -- `narrow` meets its contract. Assumes nothing.
 use mathlib.Core.Path.{sym, ap, ◌∙◌}
 use native.Mathlib.Omega.{arith}
-use borrow.Author.Rules.{rules}
-use borrow.Author.Tests.{not-true, not-false}
 use lib.ListN.{length}
 use Rattle.rows.specs.Format.{format}
 use Rattle.convert.specs.Conversions.{convert_answer, output_in}
 use Rattle.convert.specs.Laws.Entries.{told_few, told_head, told_long, refused_answer, refused_output, narrow_refused, narrow_over, narrow_long, narrow_counted, narrow_sound}
-use borrow.Author.Rules.{rules}
 use Rattle.convert.proofs.entry.narrow.Goals as goal
 
 pub check_file-checked-requires : goal.check_file-checked-requires

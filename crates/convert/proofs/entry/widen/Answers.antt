@@ -1,12 +1,10 @@
 -- `widen` meets its contract. Assumes nothing.
 use mathlib.Core.Path.{sym, ap, ◌∙◌}
 use native.Mathlib.Omega.{arith}
-use borrow.Author.Rules.{rules}
 use lib.ListN.{length}
 use Rattle.rows.specs.Format.{old_format}
 use Rattle.convert.specs.Conversions.{convert_answer, output_in}
 use Rattle.convert.specs.Laws.Entries.{told_few, told_short, told_head, refused_answer, refused_output, widen_refused, widen_counted, widen_sound}
-use borrow.Author.Rules.{rules}
 use Rattle.convert.proofs.entry.widen.Goals as goal
 
 pub check_file-checked-requires : goal.check_file-checked-requires

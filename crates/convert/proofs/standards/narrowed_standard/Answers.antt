@@ -1,9 +1,7 @@
 -- `narrowed_standard` meets its contract. Assumes nothing.
 use mathlib.Core.Path.{refl}
-use borrow.Author.Rules.{rules}
 use borrow.Author.Tests.{ne_eqb}
 use Rattle.convert.specs.Standards.{narrowed_standard}
-use borrow.Author.Rules.{rules}
 use Rattle.convert.proofs.standards.narrowed_standard.Goals as goal
 
 pub returns-then-standard-eq-STANDARD_254 : goal.returns-then-standard-eq-STANDARD_254

@@ -1,7 +1,5 @@
 -- `put_file` meets its contract. Assumes nothing.
-use borrow.Author.Rules.{rules}
 use Rattle.convert.specs.Laws.WriteLoop.{sound_long, room_for_head, records_ready, file_put}
-use borrow.Author.Rules.{rules}
 use Rattle.convert.proofs.write.put_file.Goals as goal
 
 pub put_head-begin-requires : goal.put_head-begin-requires

@@ -1,11 +1,9 @@
 -- `put_head` meets its contract. Assumes nothing.
 use native.Mathlib.Omega.{arith}
-use borrow.Author.Rules.{rules}
 use Rattle.rows.specs.Format.{short_bytes, head_length}
 use Rattle.text.specs.Laws.Appending.{appended_then}
 use Rattle.text.specs.Laws.Records.{bytes_long}
 use Rattle.convert.specs.Fields.{head_bytes}
-use borrow.Author.Rules.{rules}
 use Rattle.convert.proofs.write.put_head.Goals as goal
 
 pub put_little_endian-at_kind-requires : goal.put_little_endian-at_kind-requires

@@ -1,14 +1,12 @@
 -- `put_record` meets its contract. Assumes nothing.
 use mathlib.Core.Path.{refl, ap}
 use native.Mathlib.Omega.{arith}
-use borrow.Author.Rules.{rules}
 use lib.ListN.{length}
 use Rattle.rows.specs.Records.{kind_at, length_at, span_at}
 use Rattle.rows.specs.Laws.Tokens.{formed_fits}
 use Rattle.convert.specs.Laws.Puts.{number_put, record_put, word_there}
 use Rattle.convert.specs.Fields.{token_fields}
 use Rattle.convert.specs.Laws.OneRecord.{word_long}
-use borrow.Author.Rules.{rules}
 use Rattle.convert.proofs.write.put_record.Goals as goal
 
 pub two_bytes-size-requires : goal.two_bytes-size-requires

@@ -1,11 +1,7 @@
 -- `put_records` meets its contract. The loop's invariant: what is written and the records that are left make all of them. Assumes nothing.
-use Prim.Native.Nat.{◌-◌}
-use mathlib.Core.Path.{sym, ◌∙◌}
 use native.Mathlib.Omega.{arith}
-use borrow.Author.Rules.{rules}
-use lib.ListN.{length}
 use Rattle.rows.specs.Records.{length_at}
-use Rattle.convert.specs.Laws.WriteLoop.{WriteLoop, write_begins, record_inside, record_some, record_ready, write_on, write_ends}
+use Rattle.convert.specs.Laws.WriteLoop.{write_begins, record_inside, record_some, record_ready, write_on, write_ends}
 use Rattle.convert.proofs.write.put_records.Goals as goal
 
 pub loop-at-init : goal.loop-at-init

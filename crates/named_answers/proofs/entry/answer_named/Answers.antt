@@ -1,8 +1,6 @@
 -- `answer_named` meets its contract. Assumes nothing.
 use native.Mathlib.Omega.{arith}
-use borrow.Author.Rules.{rules}
 use Rattle.named_answers.specs.Laws.Entry.{named_fits, named_settles}
-use borrow.Author.Rules.{rules}
 use Rattle.named_answers.proofs.entry.answer_named.Goals as goal
 
 pub settle-requires : goal.settle-requires

@@ -1,12 +1,9 @@
 -- `parse_named_type_name` meets its contract. Assumes nothing.
 use native.Mathlib.Omega.{arith}
-use mathlib.Core.Path.{refl}
-use borrow.Author.Rules.{rules}
-use lib.ListN.{length, length-take}
+use lib.ListN.{length-take}
 use Rattle.type_name.specs.Laws.EntryFile.{counted, file_refused, file_taken}
 use Rattle.named_answers.specs.Laws.Entry.{untouched_answer, untouched_buffer, taken_held, taken_answer, taken_buffer}
 use Rattle.named_answers.specs.Laws.NamedPromised.{named_promised}
-use borrow.Author.Rules.{rules}
 use Rattle.named_answers.proofs.entry.parse_named_type_name.Goals as goal
 
 pub read_file-row-requires : goal.read_file-row-requires

@@ -1,9 +1,7 @@
 -- `find_names` meets its contract. Assumes nothing.
 use native.Mathlib.Omega.{arith}
 use mathlib.Core.Path.{refl}
-use borrow.Author.Rules.{rules}
 use Rattle.names.specs.Laws.Told.{listed_there, malformed_there, marks_of_row}
-use borrow.Author.Rules.{rules}
 use Rattle.named_answers.proofs.name_marks.find_names.Goals as goal
 
 pub read_names-read-requires : goal.read_names-read-requires

@@ -1,9 +1,6 @@
 -- `read_checked` meets its contract. Assumes nothing.
 use native.Mathlib.Omega.{arith}
-use borrow.Author.Rules.{rules}
-use borrow.Author.Tests.{not-true, not-false}
 use Rattle.named_answers.specs.Laws.Entry.{row_known, other_language, names_malformed, names_checked}
-use borrow.Author.Rules.{rules}
 use Rattle.named_answers.proofs.tree.read_checked.Goals as goal
 
 pub returns-then-head-ne-CPP : goal.returns-then-head-ne-CPP

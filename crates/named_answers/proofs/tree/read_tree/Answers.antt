@@ -1,9 +1,7 @@
 -- `read_tree` meets its contract. Assumes nothing.
 use native.Mathlib.Omega.{arith}
-use borrow.Author.Rules.{rules}
 use Rattle.type_name.specs.Laws.Entry.{scan_refused, scan_passed}
 use Rattle.named_answers.specs.Laws.Entry.{named_refused, named_parsed}
-use borrow.Author.Rules.{rules}
 use Rattle.named_answers.proofs.tree.read_tree.Goals as goal
 
 pub prescan_row-scanned-requires : goal.prescan_row-scanned-requires

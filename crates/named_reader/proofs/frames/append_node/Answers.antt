@@ -1,10 +1,7 @@
 -- `append_node` meets its contract. Assumes nothing.
-use mathlib.Core.Path.{◌∙◌, ap}
 use native.Mathlib.Omega.{arith}
-use borrow.Author.Rules.{rules}
 use lib.ListN.{length-take, length-drop}
 use Rattle.named_reader.specs.Laws.Frames.{behind}
-use borrow.Author.Rules.{rules}
 use Rattle.named_reader.proofs.frames.append_node.Goals as goal
 
 pub put_node-requires : goal.put_node-requires

@@ -1,10 +1,8 @@
 -- `begin_group` meets its contract. Assumes nothing.
 use native.Mathlib.Omega.{arith}
-use borrow.Author.Rules.{rules}
 use mathlib.Core.Path.{refl}
 use Rattle.named_reader.specs.Laws.Moves.{inner_begun}
 use Rattle.named_reader.specs.Laws.Begun.{group_spent, group_deep, group_done}
-use borrow.Author.Rules.{rules}
 use Rattle.named_reader.proofs.frames.begin_group.Goals as goal
 
 pub returns-then-reader-eq0 : goal.returns-then-reader-eq0

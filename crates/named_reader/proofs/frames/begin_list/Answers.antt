@@ -1,11 +1,9 @@
 -- `begin_list` meets its contract. Assumes nothing.
 use native.Mathlib.Omega.{arith}
-use borrow.Author.Rules.{rules}
 use mathlib.Core.Path.{refl}
 use Rattle.reader.specs.Nodes.{number}
 use Rattle.named_reader.specs.Laws.Moves.{inner_begun}
 use Rattle.named_reader.specs.Laws.Begun.{list_spent, list_deep, list_done}
-use borrow.Author.Rules.{rules}
 use Rattle.named_reader.proofs.frames.begin_list.Goals as goal
 
 pub returns-then-reader-eq0 : goal.returns-then-reader-eq0

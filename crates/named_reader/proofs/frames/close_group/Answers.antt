@@ -1,9 +1,7 @@
 -- `close_group` meets its contract. Assumes nothing.
 use native.Mathlib.Omega.{arith}
-use borrow.Author.Rules.{rules}
 use mathlib.Core.Path.{refl}
 use Rattle.named_reader.specs.Laws.Places.{group_placed, group_shut}
-use borrow.Author.Rules.{rules}
 use Rattle.named_reader.proofs.frames.close_group.Goals as goal
 
 pub overflow_sub-group : goal.overflow_sub-group

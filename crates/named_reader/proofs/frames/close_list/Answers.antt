@@ -1,9 +1,7 @@
 -- `close_list` meets its contract. Assumes nothing.
 use native.Mathlib.Omega.{arith}
-use borrow.Author.Rules.{rules}
 use mathlib.Core.Path.{refl}
 use Rattle.named_reader.specs.Laws.Places.{list_placed, list_closed}
-use borrow.Author.Rules.{rules}
 use Rattle.named_reader.proofs.frames.close_list.Goals as goal
 
 pub overflow_sub-argument : goal.overflow_sub-argument

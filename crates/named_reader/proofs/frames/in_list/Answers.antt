@@ -1,9 +1,7 @@
 -- `in_list` meets its contract. Assumes nothing.
 use native.Mathlib.Omega.{arith}
-use borrow.Author.Rules.{rules}
 use Rattle.reader.specs.Nodes.{number}
 use Rattle.named_reader.specs.Laws.Moves.{all_held, inner_begun, nothing_open, kind_tells}
-use borrow.Author.Rules.{rules}
 use Rattle.named_reader.proofs.frames.in_list.Goals as goal
 
 pub returns-then-reader-eq0 : goal.returns-then-reader-eq0

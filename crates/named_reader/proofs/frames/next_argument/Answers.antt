@@ -1,13 +1,8 @@
 -- `next_argument` meets its contract. Assumes nothing.
 use native.Mathlib.Omega.{arith}
-use borrow.Author.Rules.{rules}
-use mathlib.Core.Path.{refl, ap, ◌∙◌}
-use mathlib.Core.List.{List, ◌++◌, ◌∷◌, []}
-use Prim.Native.Nat.{ℕ, ◌*◌}
-use lib.ListN.{take}
-use Rattle.reader.specs.Nodes.{number, a_node, node_width}
+use mathlib.Core.Path.{refl}
+use Rattle.reader.specs.Nodes.{number}
 use Rattle.named_reader.specs.Laws.Places.{list_placed, argument_closed}
-use borrow.Author.Rules.{rules}
 use Rattle.named_reader.proofs.frames.next_argument.Goals as goal
 
 pub overflow_sub-argument : goal.overflow_sub-argument

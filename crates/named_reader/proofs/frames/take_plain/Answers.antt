@@ -1,10 +1,8 @@
 -- `take_plain` meets its contract. Assumes nothing.
 use native.Mathlib.Omega.{arith}
-use borrow.Author.Rules.{rules}
 use mathlib.Core.Path.{refl}
 use Rattle.reader.specs.Nodes.{number}
 use Rattle.named_reader.specs.Laws.Begun.{plain_spent, plain_done}
-use borrow.Author.Rules.{rules}
 use Rattle.named_reader.proofs.frames.take_plain.Goals as goal
 
 pub returns-then-reader-eq0 : goal.returns-then-reader-eq0

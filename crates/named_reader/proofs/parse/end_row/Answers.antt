@@ -1,9 +1,6 @@
 -- `end_row` meets its contract. Assumes nothing.
-use native.Mathlib.Omega.{arith}
-use borrow.Author.Rules.{rules}
 use mathlib.Core.Path.{refl}
 use Rattle.named_reader.specs.Laws.RowLoop.{ends_read, ends_list, ends_group}
-use borrow.Author.Rules.{rules}
 use Rattle.named_reader.proofs.parse.end_row.Goals as goal
 
 pub returns-then-reader-eq0 : goal.returns-then-reader-eq0

@@ -1,10 +1,7 @@
 -- `parse_named` meets its contract. The loop's invariant: code and buffer are the definition's state before token `at`. Assumes nothing.
 use Prim.Native.Nat.{◌-◌}
-use native.Mathlib.Omega.{arith}
-use borrow.Author.Rules.{rules}
-use mathlib.Core.Path.{refl, ◌∙◌}
 use lib.ListN.{length}
-use Rattle.named_reader.specs.Laws.RowLoop.{Loop, loop_starts, left_fits, loop_held, loop_room, loop_on, refused_fits, loop_refused, loop_spent, loop_ends}
+use Rattle.named_reader.specs.Laws.RowLoop.{Loop}
 use Rattle.named_reader.proofs.parse.parse_named.Given as goal
 
 abbrev pub invariant-loop-at : goal.invariant-loop-at

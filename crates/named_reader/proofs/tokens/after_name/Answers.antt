@@ -1,8 +1,6 @@
 -- `after_name` meets its contract. Assumes nothing.
 use native.Mathlib.Omega.{arith}
-use borrow.Author.Rules.{rules}
 use Rattle.named_reader.specs.Laws.Tables.{first_token, name_there, name_past}
-use borrow.Author.Rules.{rules}
 use Rattle.named_reader.proofs.tokens.after_name.Goals as goal
 
 pub returns-then-at-eq0 : goal.returns-then-at-eq0

@@ -1,10 +1,8 @@
 -- `at_closer` meets its contract. Assumes nothing.
 use native.Mathlib.Omega.{arith}
-use borrow.Author.Rules.{rules}
 use Rattle.reader.specs.Nodes.{number}
 use Rattle.named_reader.specs.Laws.Moves.{all_held, inner_begun}
 use Rattle.named_reader.specs.Laws.AtToken.{held_group, closer_none, closer_list, closer_group, closer_other}
-use borrow.Author.Rules.{rules}
 use Rattle.named_reader.proofs.tokens.at_closer.Goals as goal
 
 pub returns-then-reader-eq0 : goal.returns-then-reader-eq0

@@ -1,9 +1,6 @@
 -- `at_comma` meets its contract. Assumes nothing.
 use native.Mathlib.Omega.{arith}
-use borrow.Author.Rules.{rules}
-use borrow.Author.Tests.{not-true, not-false}
 use Rattle.named_reader.specs.Laws.AtToken.{held_list, in_list_is, comma_none, comma_empty, comma_ends}
-use borrow.Author.Rules.{rules}
 use Rattle.named_reader.proofs.tokens.at_comma.Goals as goal
 
 pub take_plain-requires : goal.take_plain-requires

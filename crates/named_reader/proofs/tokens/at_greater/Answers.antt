@@ -1,9 +1,6 @@
 -- `at_greater` meets its contract. Assumes nothing.
 use native.Mathlib.Omega.{arith}
-use borrow.Author.Rules.{rules}
-use borrow.Author.Tests.{not-true, not-false}
 use Rattle.named_reader.specs.Laws.AtToken.{held_list, in_list_is, greater_none, greater_empty, greater_closes}
-use borrow.Author.Rules.{rules}
 use Rattle.named_reader.proofs.tokens.at_greater.Goals as goal
 
 pub returns-then-not-in_list : goal.returns-then-not-in_list

@@ -1,9 +1,6 @@
 -- `at_shift` meets its contract. Assumes nothing.
 use native.Mathlib.Omega.{arith}
-use borrow.Author.Rules.{rules}
-use borrow.Author.Tests.{not-true, not-false}
 use Rattle.named_reader.specs.Laws.AtToken.{held_list, in_list_is, moves_held, shift_none, shift_empty, shift_alone, shift_closes}
-use borrow.Author.Rules.{rules}
 use Rattle.named_reader.proofs.tokens.at_shift.Goals as goal
 
 pub returns-then-not-in_list : goal.returns-then-not-in_list

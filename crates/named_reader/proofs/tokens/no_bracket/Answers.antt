@@ -1,10 +1,8 @@
 -- `no_bracket` meets its contract. Assumes nothing.
 use native.Mathlib.Omega.{arith}
 use mathlib.Core.Path.{sym, ◌∙◌}
-use borrow.Author.Rules.{rules}
 use Rattle.named_reader.specs.Laws.AtToken.{due_same}
 use Rattle.named_reader.specs.Laws.Tables.{at_name, at_less, is_greater, is_shift, is_comma, is_other}
-use borrow.Author.Rules.{rules}
 use Rattle.named_reader.proofs.tokens.no_bracket.Goals as goal
 
 pub returns-then-after_name : goal.returns-then-after_name

@@ -1,9 +1,7 @@
 -- `take_token` meets its contract. Assumes nothing.
 use native.Mathlib.Omega.{arith}
-use borrow.Author.Rules.{rules}
 use Rattle.named_reader.specs.Laws.AtToken.{due_same}
 use Rattle.named_reader.specs.Laws.Tables.{is_left_paren, is_left_bracket, is_right_paren, is_right_bracket, is_no_bracket}
-use borrow.Author.Rules.{rules}
 use Rattle.named_reader.proofs.tokens.take_token.Goals as goal
 
 pub begin_group-requires : goal.begin_group-requires

@@ -1,11 +1,8 @@
 -- `mark_names` meets its contract. The loop's invariant: the marks before this token are made, and its left neighbour's record is next. Assumes nothing.
-use Prim.Native.Nat.{◌-◌}
 use native.Mathlib.Omega.{arith}
-use borrow.Author.Rules.{rules}
 use mathlib.Core.Path.{refl}
-use lib.ListN.{length}
 use Rattle.names.specs.Laws.Records.{there_begins, there_inside, sized_at}
-use Rattle.names.specs.Laws.Walk.{Walk, walk_begins, record_there, walk_passes, walk_marks, walk_ends}
+use Rattle.names.specs.Laws.Walk.{walk_begins, record_there, walk_passes, walk_marks, walk_ends}
 use Rattle.names.proofs.marks.mark_names.Goals as goal
 
 pub loop-i-init : goal.loop-i-init

@@ -1,11 +1,7 @@
 -- `read_names` meets its contract. The loop's invariant: the names so far are distinct and in the table. Assumes nothing.
-use Prim.Native.Nat.{◌-◌}
 use mathlib.Core.Path.{sym, ◌∙◌}
 use native.Mathlib.Omega.{arith}
-use borrow.Author.Rules.{rules}
-use borrow.Author.Tests.{not-true, not-false}
-use lib.ListN.{length}
-use Rattle.names.specs.Laws.ReadLoop.{NamesLoop, names_begin, some_names, names_full, names_malformed, names_other_kind, names_twice, names_further, names_again, names_empty, names_end}
+use Rattle.names.specs.Laws.ReadLoop.{names_begin, some_names, names_full, names_malformed, names_other_kind, names_twice, names_further, names_again, names_empty, names_end}
 use Rattle.names.proofs.name_list.read_names.Goals as goal
 
 pub loop-at-init : goal.loop-at-init

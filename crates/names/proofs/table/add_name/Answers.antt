@@ -1,10 +1,7 @@
 -- `add_name` meets its contract. Assumes nothing.
 use mathlib.Core.Path.{◌∙◌, ap}
-use native.Mathlib.Omega.{arith}
-use borrow.Author.Rules.{rules}
 use Rattle.names.specs.NamesSay.{bucket_of}
 use Rattle.names.specs.Laws.Tables.{some_chain, looks, table_there, adds_none, adds_one}
-use borrow.Author.Rules.{rules}
 use Rattle.names.proofs.table.add_name.Goals as goal
 
 pub word_there-name-requires : goal.word_there-name-requires

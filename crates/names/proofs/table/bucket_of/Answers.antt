@@ -1,9 +1,6 @@
 -- `bucket_of` meets its contract. The loop's invariant: the bytes left decide. Assumes nothing.
-use Prim.Native.Nat.{◌-◌}
 use native.Mathlib.Omega.{arith}
-use borrow.Author.Rules.{rules}
-use lib.ListN.{length}
-use Rattle.names.specs.Laws.Buckets.{BucketLoop, bucket_begins, bucket_again, bucket_ends}
+use Rattle.names.specs.Laws.Buckets.{bucket_begins, bucket_again, bucket_ends}
 use Rattle.names.proofs.table.bucket_of.Goals as goal
 
 pub loop-i-init : goal.loop-i-init

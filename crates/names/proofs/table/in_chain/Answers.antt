@@ -1,7 +1,6 @@
 -- `in_chain` meets its contract. The loop's invariant: no name from this number on is the word. Assumes nothing.
 use native.Mathlib.Omega.{arith}
-use borrow.Author.Rules.{rules}
-use Rattle.names.specs.Laws.Tables.{ChainLoop, chain_begins, chain_within, chain_here, chain_again, chain_ends}
+use Rattle.names.specs.Laws.Tables.{chain_begins, chain_within, chain_here, chain_again, chain_ends}
 use Rattle.names.proofs.table.in_chain.Goals as goal
 
 pub loop-entry-init : goal.loop-entry-init

@@ -1,8 +1,5 @@
 -- `is_name` meets its contract. Assumes nothing.
-use native.Mathlib.Omega.{arith}
-use borrow.Author.Rules.{rules}
 use Rattle.names.specs.Laws.Tables.{some_chain, looks}
-use borrow.Author.Rules.{rules}
 use Rattle.names.proofs.table.is_name.Goals as goal
 
 pub in_chain-requires : goal.in_chain-requires

@@ -1,8 +1,6 @@
 -- `word_there` meets its contract. Assumes nothing.
 use native.Mathlib.Omega.{arith}
-use borrow.Author.Rules.{rules}
 use Rattle.names.specs.Laws.Records.{there_begins, there_inside, word_taken}
-use borrow.Author.Rules.{rules}
 use Rattle.names.proofs.table.word_there.Goals as goal
 
 pub overflow_add-begin : goal.overflow_add-begin

@@ -1,9 +1,6 @@
 -- `count_arguments` meets its contract. The loop's invariant: what is left of the list decides. Assumes nothing.
 use Prim.Native.Nat.{◌-◌}
-use mathlib.Core.Path.{refl, sym, ◌∙◌}
-use native.Mathlib.Omega.{arith}
-use borrow.Author.Tests.{not-true, not-false}
-use Rattle.outer.specs.Laws.Walk.{CountLoop, count_stops, count_further, count_again, count_ends}
+use Rattle.outer.specs.Laws.Walk.{CountLoop}
 use Rattle.outer.proofs.arguments.count_arguments.Given as goal
 
 abbrev pub invariant-loop-at : goal.invariant-loop-at

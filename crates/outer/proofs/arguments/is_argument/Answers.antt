@@ -1,9 +1,7 @@
 -- `is_argument` meets its contract. Assumes nothing.
 use mathlib.Core.Path.{refl}
-use borrow.Author.Rules.{rules}
 use Rattle.reader.specs.Nodes.{number}
 use Rattle.outer.specs.ByExtents.{is_argument}
-use borrow.Author.Rules.{rules}
 use Rattle.outer.proofs.arguments.is_argument.Goals as goal
 
 pub returns : goal.returns

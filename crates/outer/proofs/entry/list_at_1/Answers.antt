@@ -1,9 +1,7 @@
 -- `list_at_1` meets its contract. Assumes nothing.
 use mathlib.Core.Path.{refl}
-use borrow.Author.Rules.{rules}
 use Rattle.reader.specs.Nodes.{number}
 use Rattle.outer.specs.ByExtents.{list_at_1}
-use borrow.Author.Rules.{rules}
 use Rattle.outer.proofs.entry.list_at_1.Goals as goal
 
 pub returns : goal.returns

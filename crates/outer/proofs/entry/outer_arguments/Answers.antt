@@ -1,10 +1,7 @@
 -- `outer_arguments` meets its contract. Assumes nothing.
 use mathlib.Core.Path.{sym, ◌∙◌}
 use native.Mathlib.Omega.{arith}
-use borrow.Author.Rules.{rules}
-use borrow.Author.Tests.{not-true, not-false}
 use Rattle.outer.specs.Laws.Promised.{promised, too_short, no_word, no_list, has_list, list_there}
-use borrow.Author.Rules.{rules}
 use Rattle.outer.proofs.entry.outer_arguments.Goals as goal
 
 pub returns-then-tree : goal.returns-then-tree

@@ -1,9 +1,7 @@
 -- `word_at_0` meets its contract. Assumes nothing.
 use mathlib.Core.Path.{refl}
-use borrow.Author.Rules.{rules}
 use Rattle.reader.specs.Nodes.{number}
 use Rattle.outer.specs.ByExtents.{word_at_0}
-use borrow.Author.Rules.{rules}
 use Rattle.outer.proofs.entry.word_at_0.Goals as goal
 
 pub returns : goal.returns

@@ -1,15 +1,8 @@
 -- `check_row_end` meets its contract: a way of the definition at each way out. Assumes nothing.
 use Prim.Native.Nat.{◌-◌}
-use mathlib.Core.Path.{◌≡◌, refl, sym, ap, ap₂, ◌∙◌}
-use mathlib.Core.Bool.{◌&&◌}
 use native.Mathlib.Omega.{arith}
-use borrow.Author.Rules.{rules}
 use borrow.Author.Tests.{not-true, not-false}
-use lib.ListN.{length}
-use Rattle.rows.specs.Kinds.{NoToken}
-use Rattle.prescan.specs.Prescan.{valid_start, valid_end}
 use Rattle.prescan.specs.Laws.RowEnd.{open_bracket, open_angle, no_identifier, good_boundary, bad_boundary, boundary_test}
-use borrow.Author.Rules.{rules}
 use Rattle.prescan.proofs.boundary.check_row_end.Goals as goal
 
 pub bounds-stack-depth : goal.bounds-stack-depth

@@ -1,12 +1,10 @@
 -- `kind_before_last` meets its contract. Assumes nothing.
 use Prim.Native.Nat.{◌-◌}
-use mathlib.Core.Path.{◌≡◌, refl}
+use mathlib.Core.Path.{◌≡◌}
 use native.Mathlib.Omega.{arith}
-use borrow.Author.Rules.{rules}
 use lib.ListN.{length}
 use Rattle.rows.specs.Kinds.{NoToken}
 use Rattle.rows.specs.Laws.Lookups.{any_default}
-use borrow.Author.Rules.{rules}
 use Rattle.prescan.proofs.boundary.kind_before_last.Goals as goal
 
 pub returns-then-kinds-lt2 : goal.returns-then-kinds-lt2

@@ -1,10 +1,8 @@
 -- `close_delimiter` meets its contract. Assumes nothing.
 use Prim.Native.Nat.{◌-◌}
-use mathlib.Core.Path.{◌≡◌, refl, sym, ap, ◌∙◌}
+use mathlib.Core.Path.{sym, ◌∙◌}
 use native.Mathlib.Omega.{arith}
-use borrow.Author.Rules.{rules}
 use Rattle.prescan.specs.Laws.Taking.{on_past, refuses, nothing_open, own_open, other_open}
-use borrow.Author.Rules.{rules}
 use Rattle.prescan.proofs.scan.close_delimiter.Goals as goal
 
 pub overflow_cast-token : goal.overflow_cast-token

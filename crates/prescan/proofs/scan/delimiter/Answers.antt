@@ -1,5 +1,4 @@
 -- `delimiter` meets its contract. Assumes nothing.
-use mathlib.Core.Path.{refl}
 use borrow.Author.Tests.{eq-eqb, ne_eqb}
 use Rattle.prescan.specs.ScanState.{delimiter_of}
 use Rattle.prescan.proofs.scan.delimiter.Goals as goal

@@ -1,5 +1,4 @@
 -- `is_ordinary` meets its contract: each way out ends the chain of tests. Assumes nothing.
-use native.Mathlib.Omega.{arith}
 use Rattle.prescan.specs.Laws.Ordinary.{met, not_met, last_test}
 use Rattle.prescan.proofs.scan.is_ordinary.Goals as goal
 

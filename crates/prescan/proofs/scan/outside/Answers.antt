@@ -1,12 +1,8 @@
 -- `outside` meets its contract: an arm of the definition at each way out. Assumes nothing.
-use mathlib.Core.Path.{◌≡◌, refl, sym, ap, ◌∙◌}
-use mathlib.Core.List.{[]}
+use mathlib.Core.Path.{sym, ◌∙◌}
 use native.Mathlib.Omega.{arith}
-use borrow.Author.Rules.{rules}
-use Rattle.prescan.specs.Prescan.{passed}
 use Rattle.prescan.specs.Laws.Outside.{less_refused, less_first, less_later, greater_refused, greater_closes, shift_refused, shift_closes, shift_passes, comma_refused, comma_passes, other_passes}
 use Rattle.prescan.specs.Laws.Steps.{goes_on, stops}
-use borrow.Author.Rules.{rules}
 use Rattle.prescan.proofs.scan.outside.Goals as goal
 
 pub returns-then-s-eq-NO_TOKEN : goal.returns-then-s-eq-NO_TOKEN

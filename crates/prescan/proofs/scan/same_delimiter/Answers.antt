@@ -1,7 +1,6 @@
 -- `same_delimiter` meets its contract. Assumes nothing.
 use mathlib.Core.Path.{refl}
 use Rattle.prescan.specs.Matcher.{same}
-use borrow.Author.Rules.{rules}
 use Rattle.prescan.proofs.scan.same_delimiter.Goals as goal
 
 pub returns-in-Parenthesis-other : goal.returns-in-Parenthesis-other

@@ -1,9 +1,7 @@
 -- `take` meets its contract: a way of the definition at each way out. Assumes nothing.
-use mathlib.Core.Path.{◌≡◌, refl, sym, ap, subst, ◌∙◌}
+use mathlib.Core.Path.{refl}
 use native.Mathlib.Omega.{arith}
-use borrow.Author.Rules.{rules}
 use Rattle.prescan.specs.Laws.Taking.{on_past, refuses, round_opener, square_opener, round_closer, square_closer, end_token, inside_brackets, outside_taken, outside_takes}
-use borrow.Author.Rules.{rules}
 use Rattle.prescan.proofs.scan.take.Goals as goal
 
 pub bounds-kinds-at : goal.bounds-kinds-at

@@ -1,7 +1,4 @@
 -- `compared` meets its contract. Assumes nothing.
-use native.Mathlib.Omega.{arith}
-use borrow.Author.Rules.{rules}
-use borrow.Author.Rules.{rules}
 use Rattle.profile.proofs.features.compared.Goals as goal
 
 pub returns-then-ignoring : goal.returns-then-ignoring

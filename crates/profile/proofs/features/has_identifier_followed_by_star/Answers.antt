@@ -1,12 +1,7 @@
 -- `has_identifier_followed_by_star` meets its contract. Assumes nothing.
-use Prim.Native.Nat.{◌+◌, ◌-◌}
-use mathlib.Core.Bool.{◌&&◌}
-use lib.ListN.{length}
 use native.Mathlib.Omega.{arith}
-use borrow.Author.Rules.{rules}
-use Rattle.rows.specs.Kinds.{Dot, LeftParen, RightParen, Star}
-use Rattle.profile.specs.Profile.{has_identifier_followed_by_star, identifier_is, kind_is}
-use Rattle.profile.specs.Laws.SomeToken.{Looking, looking_start, looking_on, looking_found, looking_end}
+use Rattle.profile.specs.Profile.{has_identifier_followed_by_star}
+use Rattle.profile.specs.Laws.SomeToken.{looking_start, looking_on, looking_found, looking_end}
 use Rattle.profile.proofs.features.has_identifier_followed_by_star.Goals as goal
 
 pub loop-at-init : goal.loop-at-init

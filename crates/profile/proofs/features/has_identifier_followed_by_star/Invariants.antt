@@ -2,11 +2,9 @@
 use Prim.Native.Nat.{◌+◌, ◌-◌}
 use mathlib.Core.Bool.{◌&&◌}
 use lib.ListN.{length}
-use native.Mathlib.Omega.{arith}
-use borrow.Author.Rules.{rules}
-use Rattle.rows.specs.Kinds.{Dot, LeftParen, RightParen, Star}
-use Rattle.profile.specs.Profile.{has_identifier_followed_by_star, identifier_is, kind_is}
-use Rattle.profile.specs.Laws.SomeToken.{Looking, looking_start, looking_on, looking_found, looking_end}
+use Rattle.rows.specs.Kinds.{LeftParen, Star}
+use Rattle.profile.specs.Profile.{identifier_is, kind_is}
+use Rattle.profile.specs.Laws.SomeToken.{Looking}
 use Rattle.profile.proofs.features.has_identifier_followed_by_star.Given as goal
 
 abbrev pub invariant-loop-at : goal.invariant-loop-at

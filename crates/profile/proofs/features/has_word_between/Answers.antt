@@ -1,8 +1,6 @@
 -- `has_word_between` meets its contract. The loop's invariant: what is found before this place. Assumes nothing.
-use Prim.Native.Nat.{◌-◌, ◌≤◌}
-use mathlib.Core.Path.{◌≡◌, refl}
+use mathlib.Core.Path.{refl}
 use native.Mathlib.Omega.{arith}
-use borrow.Author.Rules.{rules}
 use lib.ListN.{length}
 use Rattle.profile.specs.Profile.{some_below}
 use Rattle.profile.specs.Laws.Between.{between, one_more, no_more}

@@ -1,11 +1,9 @@
 -- `has_word_between` meets its contract. The loop's invariant: what is found before this place. Assumes nothing.
 use Prim.Native.Nat.{◌-◌, ◌≤◌}
-use mathlib.Core.Path.{◌≡◌, refl}
-use native.Mathlib.Omega.{arith}
-use borrow.Author.Rules.{rules}
+use mathlib.Core.Path.{◌≡◌}
 use lib.ListN.{length}
 use Rattle.profile.specs.Profile.{some_below}
-use Rattle.profile.specs.Laws.Between.{between, one_more, no_more}
+use Rattle.profile.specs.Laws.Between.{between}
 use Rattle.profile.proofs.features.has_word_between.Given as goal
 
 abbrev pub invariant-loop-at : goal.invariant-loop-at

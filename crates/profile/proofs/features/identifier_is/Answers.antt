@@ -1,10 +1,7 @@
 -- `identifier_is` meets its contract. Assumes nothing.
-use native.Mathlib.Omega.{arith}
-use borrow.Author.Rules.{rules}
 use borrow.Author.Tests.{eq-eqb, ne_eqb}
 use Rattle.profile.specs.Profile.{identifier_is}
 use Rattle.rows.specs.Laws.Tests.{and_false, and_true}
-use borrow.Author.Rules.{rules}
 use Rattle.profile.proofs.features.identifier_is.Goals as goal
 
 pub returns-then-compared-word : goal.returns-then-compared-word

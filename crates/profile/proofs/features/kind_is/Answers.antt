@@ -1,12 +1,10 @@
 -- `kind_is` meets its contract. Assumes nothing.
 use mathlib.Core.Path.{ap}
 use native.Mathlib.Omega.{arith}
-use borrow.Author.Rules.{rules}
 use lib.Dec.{eqb}
 use Rattle.rows.specs.Kinds.{NoToken}
 use Rattle.rows.specs.Laws.Lookups.{any_default, past_default}
 use Rattle.profile.specs.Profile.{kind_is}
-use borrow.Author.Rules.{rules}
 use Rattle.profile.proofs.features.kind_is.Goals as goal
 
 pub returns-then-at-kinds : goal.returns-then-at-kinds

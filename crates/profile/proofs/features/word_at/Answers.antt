@@ -1,9 +1,7 @@
 -- `word_at` meets its contract. Assumes nothing.
 use native.Mathlib.Omega.{arith}
-use borrow.Author.Rules.{rules}
 use Rattle.rows.specs.Words.{no_word}
 use Rattle.rows.specs.Laws.Lookups.{any_default, past_default}
-use borrow.Author.Rules.{rules}
 use Rattle.profile.proofs.features.word_at.Goals as goal
 
 pub returns-then-at-words : goal.returns-then-at-words

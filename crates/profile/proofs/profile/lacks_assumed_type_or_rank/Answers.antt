@@ -1,11 +1,8 @@
 -- `lacks_assumed_type_or_rank` meets its contract. Assumes nothing.
-use mathlib.Core.Path.{refl, sym, ap, ◌∙◌}
 use native.Mathlib.Omega.{arith}
-use borrow.Author.Rules.{rules}
 use Rattle.rows.specs.declared.answer.Feature.TheVariants.{AssumedTypeOrRank}
 use Rattle.profile.specs.Profile.{uses}
 use Rattle.profile.specs.Laws.Lacking.{is_lacking, is_there}
-use borrow.Author.Rules.{rules}
 use Rattle.profile.proofs.profile.lacks_assumed_type_or_rank.Goals as goal
 
 pub returns-then-since-standard : goal.returns-then-since-standard

@@ -1,10 +1,8 @@
 -- `lacks_call` meets its contract. Assumes nothing.
-use mathlib.Core.Path.{refl, sym, ap, ◌∙◌}
+use mathlib.Core.Path.{◌∙◌}
 use native.Mathlib.Omega.{arith}
-use borrow.Author.Rules.{rules}
 use Rattle.profile.specs.Profile.{has_identifier_call}
 use Rattle.profile.specs.Laws.Lacking.{is_lacking, is_there}
-use borrow.Author.Rules.{rules}
 use Rattle.profile.proofs.profile.lacks_call.Goals as goal
 
 pub returns-then-since-standard : goal.returns-then-since-standard

@@ -1,11 +1,9 @@
 -- `lacks_long_long` meets its contract. Assumes nothing.
-use mathlib.Core.Path.{refl, sym, ap, ◌∙◌}
+use mathlib.Core.Path.{◌∙◌}
 use native.Mathlib.Omega.{arith}
-use borrow.Author.Rules.{rules}
 use Rattle.rows.specs.declared.answer.Feature.TheVariants.{LongLong}
 use Rattle.profile.specs.Profile.{uses}
 use Rattle.profile.specs.Laws.Lacking.{is_lacking, is_there}
-use borrow.Author.Rules.{rules}
 use Rattle.profile.proofs.profile.lacks_long_long.Goals as goal
 
 pub returns-then-since-standard : goal.returns-then-since-standard

@@ -1,13 +1,10 @@
 -- `missing_in_c` meets its contract. Assumes nothing.
 use mathlib.Core.Path.{refl, sym, ◌∙◌}
-use native.Mathlib.Omega.{arith}
-use borrow.Author.Rules.{rules}
 use mathlib.Core.List.{[], ◌∷◌}
 use Rattle.rows.specs.Languages.{C99, C11, C23}
 use Rattle.rows.specs.declared.answer.Feature.TheVariants.{LongLong, Atomic, BitInt, Typeof, TypeofUnqual}
 use Rattle.profile.specs.Profile.{◌since◌, uses, features}
 use Rattle.profile.specs.Laws.Lacking.{ascends, lacks_first, lacks_later}
-use borrow.Author.Rules.{rules}
 use Rattle.profile.proofs.profile.missing_in_c.Goals as goal
 
 pub returns-then-lacks_long_long : goal.returns-then-lacks_long_long

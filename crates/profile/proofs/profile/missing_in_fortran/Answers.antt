@@ -1,13 +1,10 @@
 -- `missing_in_fortran` meets its contract. Assumes nothing.
-use mathlib.Core.Path.{refl, sym, ap, ◌∙◌}
-use native.Mathlib.Omega.{arith}
-use borrow.Author.Rules.{rules}
+use mathlib.Core.Path.{refl, sym, ◌∙◌}
 use mathlib.Core.List.{[], ◌∷◌}
-use Rattle.rows.specs.Languages.{C99, C11, C23, Cpp11, Fortran90, Fortran2003, Fortran2018}
+use Rattle.rows.specs.Languages.{Fortran90, Fortran2003, Fortran2018}
 use Rattle.rows.specs.declared.answer.Feature.TheVariants.{Selector, DerivedType, Class, AssumedTypeOrRank}
 use Rattle.profile.specs.Profile.{◌since◌, uses, features}
 use Rattle.profile.specs.Laws.Lacking.{ascends, lacks_first, lacks_later, lacks_nothing}
-use borrow.Author.Rules.{rules}
 use Rattle.profile.proofs.profile.missing_in_fortran.Goals as goal
 
 pub returns-then-lacks_kind : goal.returns-then-lacks_kind

@@ -1,15 +1,13 @@
 -- `missing_of_c23` meets its contract. Assumes nothing.
 use mathlib.Core.Path.{refl, sym, ◌∙◌}
 use native.Mathlib.Omega.{arith}
-use borrow.Author.Rules.{rules}
 use mathlib.Core.List.{[], ◌∷◌}
 use Rattle.rows.specs.Languages.{C23}
 use Rattle.rows.specs.Words.{_BitInt, typeof, typeof_unqual}
 use Rattle.rows.specs.declared.answer.Feature.TheVariants.{BitInt, Typeof, TypeofUnqual}
 use Rattle.profile.specs.Profile.{◌since◌, features, uses}
-use Rattle.profile.specs.Laws.Between.{negated, no_call}
+use Rattle.profile.specs.Laws.Between.{no_call}
 use Rattle.profile.specs.Laws.Lacking.{ascends, lacks_first, lacks_later, lacks_nothing, all_there, none_used}
-use borrow.Author.Rules.{rules}
 use Rattle.profile.proofs.profile.missing_of_c23.Goals as goal
 
 pub returns-then-standard-ge-C23 : goal.returns-then-standard-ge-C23

@@ -1,12 +1,8 @@
 -- `validate_profile_features` meets its contract. Assumes nothing.
-use mathlib.Core.Path.{refl, sym, ap, ◌∙◌}
-use native.Mathlib.Omega.{arith}
-use borrow.Author.Rules.{rules}
 use Rattle.rows.specs.Languages.{C, Cpp, Fortran}
 use Rattle.profile.specs.Profile.{ignores_case, features, missing_feature}
 use Rattle.profile.specs.Laws.Lacking.{lacking_as, lacks_nothing}
-use borrow.Author.Tests.{eq-eqb, ne_eqb}
-use borrow.Author.Rules.{rules}
+use borrow.Author.Tests.{ne_eqb}
 use Rattle.profile.proofs.profile.validate_profile_features.Goals as goal
 
 pub returns-then-language-eq-C : goal.returns-then-language-eq-C

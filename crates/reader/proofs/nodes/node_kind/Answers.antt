@@ -1,9 +1,6 @@
 -- `node_kind` meets its contract. Assumes nothing.
 use mathlib.Core.Path.{refl}
-use native.Mathlib.Omega.{arith}
-use borrow.Author.Rules.{rules}
 use Rattle.reader.specs.Nodes.{kind_of}
-use borrow.Author.Rules.{rules}
 use Rattle.reader.proofs.nodes.node_kind.Goals as goal
 
 pub returns : goal.returns

@@ -1,9 +1,5 @@
 -- `node_token` meets its contract. Assumes nothing.
-use mathlib.Core.Path.{refl}
-use native.Mathlib.Omega.{arith}
-use borrow.Author.Rules.{rules}
 use Rattle.reader.specs.Nodes.{token_of}
-use borrow.Author.Rules.{rules}
 use Rattle.reader.proofs.nodes.node_token.Goals as goal
 
 pub returns : goal.returns

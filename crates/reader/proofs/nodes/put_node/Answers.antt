@@ -2,7 +2,6 @@
 use native.Mathlib.Omega.{arith}
 use lib.ListN.{length-set}
 use Rattle.reader.specs.Laws.Buffer.{put}
-use borrow.Author.Rules.{rules}
 use Rattle.reader.proofs.nodes.put_node.Goals as goal
 
 pub bounds-tree-1 : goal.bounds-tree-1

@@ -1,7 +1,4 @@
 -- `list_reading_of` meets its contract. Assumes nothing.
-use native.Mathlib.Omega.{arith}
-use Rattle.reader.specs.ReaderSays.{list_reading_of}
-use borrow.Author.Rules.{rules}
 use Rattle.reader.proofs.parser.list_reading_of.Goals as goal
 
 pub returns-in-Done : goal.returns-in-Done

@@ -3,7 +3,6 @@ use mathlib.Core.Logic.{inl, inr}
 use native.Mathlib.Omega.{arith}
 use Rattle.reader.specs.Laws.GroupWays.{group_told, stopped_refused, stopped_spent}
 use Rattle.reader.specs.Laws.RowWays.{whole_due, left_some, row_read, row_over, left_denied, row_refused, row_passed}
-use borrow.Author.Rules.{rules}
 use Rattle.reader.proofs.parser.parse.Goals as goal
 use Rattle.reader.proofs.parser.parse.Goals.{then-end-kinds-via-then-end-kinds, then-end-kinds-via-else-end-kinds+then-end}
 

@@ -1,9 +1,6 @@
 -- `parse_token` meets its contract. Assumes nothing.
-use mathlib.Core.Path.{◌≡◌, refl}
-use native.Mathlib.Omega.{arith}
-use borrow.Author.Rules.{rules}
+use mathlib.Core.Path.{refl}
 use Rattle.reader.specs.Laws.NodeWays.{token_read_so}
-use borrow.Author.Rules.{rules}
 use Rattle.reader.proofs.parser.parse_token.Goals as goal
 
 pub returns-then-parser-eq0 : goal.returns-then-parser-eq0

@@ -2,7 +2,6 @@
 use mathlib.Core.Path.{refl}
 use native.Mathlib.Omega.{arith}
 use Rattle.reader.specs.ReaderSays.{closed_at, closed_half}
-use borrow.Author.Rules.{rules}
 use Rattle.reader.proofs.parser.take_angle_close.Goals as goal
 
 pub returns-then-parser : goal.returns-then-parser

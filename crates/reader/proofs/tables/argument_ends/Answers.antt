@@ -1,8 +1,6 @@
 -- `argument_ends` meets its contract. Assumes nothing.
-use native.Mathlib.Omega.{arith}
 use borrow.Author.Tests.{eq-eqb, ne_eqb}
 use Rattle.reader.specs.Laws.TableWays.{or_true, or_false}
-use borrow.Author.Rules.{rules}
 use Rattle.reader.proofs.tables.argument_ends.Goals as goal
 
 pub returns-then-kind-eq-COMMA : goal.returns-then-kind-eq-COMMA

@@ -4,7 +4,6 @@ use native.Mathlib.Omega.{arith}
 use Rattle.reader.specs.Reading.{ends}
 use borrow.Author.Tests.{eq-eqb, ne_eqb}
 use Rattle.reader.specs.Tables.{planned, in_group}
-use borrow.Author.Rules.{rules}
 use Rattle.reader.proofs.tables.bracket_step.Goals as goal
 
 pub returns-then-kind-eq-NO_TOKEN_KIND : goal.returns-then-kind-eq-NO_TOKEN_KIND

@@ -1,7 +1,5 @@
 -- `group_kind` meets its contract. Assumes nothing.
-use native.Mathlib.Omega.{arith}
 use Rattle.reader.specs.Nodes.{number}
-use borrow.Author.Rules.{rules}
 use Rattle.reader.proofs.tables.group_kind.Goals as goal
 
 pub returns-in-Parenthesis : goal.returns-in-Parenthesis

@@ -1,7 +1,5 @@
 -- `group_step` meets its contract. Assumes nothing.
-use native.Mathlib.Omega.{arith}
 use Rattle.reader.specs.Laws.TableWays.{row_plans, round_plans, square_plans}
-use borrow.Author.Rules.{rules}
 use Rattle.reader.proofs.tables.group_step.Goals as goal
 
 pub returns-in_default : goal.returns-in_default

@@ -1,6 +1,5 @@
 -- `is_angle_close` meets its contract: each way out computes with its tests. Assumes nothing.
-use native.Mathlib.Omega.{arith}
-use borrow.Author.Tests.{eq-eqb, ne_eqb, le-leb, lt-leb}
+use borrow.Author.Tests.{eq-eqb, ne_eqb}
 use Rattle.reader.specs.Reading.{is_angle_close}
 use Rattle.reader.proofs.tables.is_angle_close.Goals as goal
 

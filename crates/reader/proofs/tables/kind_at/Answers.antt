@@ -1,7 +1,6 @@
 -- `kind_at` meets its contract. Assumes nothing.
 use native.Mathlib.Omega.{arith}
 use Rattle.reader.specs.Laws.Tokens.{kind_in, kind_out}
-use borrow.Author.Rules.{rules}
 use Rattle.reader.proofs.tables.kind_at.Goals as goal
 
 pub returns-then-at-kinds : goal.returns-then-at-kinds

@@ -1,5 +1,4 @@
 -- `row_step` meets its contract: each way out computes with its tests. Assumes nothing.
-use native.Mathlib.Omega.{arith}
 use borrow.Author.Tests.{eq-eqb, ne_eqb}
 use Rattle.reader.specs.Reading.{next}
 use Rattle.reader.specs.Tables.{planned}

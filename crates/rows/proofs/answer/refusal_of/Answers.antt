@@ -1,6 +1,4 @@
 -- `refusal_of` meets its contract: at each case the table computes. Assumes nothing.
-use Rattle.rows.specs.Refusals.{refusal_of}
-use borrow.Author.Rules.{rules}
 use Rattle.rows.proofs.answer.refusal_of.Goals as goal
 
 pub returns-in-FileTooLong : goal.returns-in-FileTooLong

@@ -1,7 +1,6 @@
 -- `eight_bytes` meets its contract. Assumes nothing.
 use native.Mathlib.Omega.{arith}
 use Rattle.rows.specs.Laws.Bytes.{eight_bytes}
-use borrow.Author.Rules.{rules}
 use Rattle.rows.proofs.bytes.eight_bytes.Goals as goal
 
 pub returns : goal.returns

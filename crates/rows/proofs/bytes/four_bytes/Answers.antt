@@ -1,7 +1,6 @@
 -- `four_bytes` meets its contract. Assumes nothing.
 use native.Mathlib.Omega.{arith}
 use Rattle.rows.specs.Laws.Bytes.{four_bytes}
-use borrow.Author.Rules.{rules}
 use Rattle.rows.proofs.bytes.four_bytes.Goals as goal
 
 pub returns : goal.returns

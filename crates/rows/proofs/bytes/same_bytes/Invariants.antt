@@ -1,8 +1,7 @@
 -- `same_bytes` meets its contract. The loop's invariant: the bytes so far are the same, and those left decide. Assumes nothing.
 use Prim.Native.Nat.{◌-◌}
-use native.Mathlib.Omega.{arith}
 use lib.ListN.{length}
-use Rattle.rows.specs.Laws.SameBytes.{SameSoFar, same_begins, not_as_long, bytes_differ, bytes_same, all_same}
+use Rattle.rows.specs.Laws.SameBytes.{SameSoFar}
 use Rattle.rows.proofs.bytes.same_bytes.Given as goal
 
 abbrev pub invariant-loop-i : goal.invariant-loop-i

@@ -1,7 +1,6 @@
 -- `two_bytes` meets its contract. Assumes nothing.
 use native.Mathlib.Omega.{arith}
 use Rattle.rows.specs.Laws.Bytes.{two_bytes}
-use borrow.Author.Rules.{rules}
 use Rattle.rows.proofs.bytes.two_bytes.Goals as goal
 
 pub returns : goal.returns

@@ -1,7 +1,5 @@
 -- `current` meets its contract. Assumes nothing.
 use mathlib.Core.Path.{refl}
-use borrow.Author.Rules.{rules}
-use borrow.Author.Rules.{rules}
 use Rattle.rows.proofs.format.current.Goals as goal
 
 pub returns : goal.returns

@@ -1,7 +1,5 @@
 -- `old` meets its contract. Assumes nothing.
 use mathlib.Core.Path.{refl}
-use borrow.Author.Rules.{rules}
-use borrow.Author.Rules.{rules}
 use Rattle.rows.proofs.format.old.Goals as goal
 
 pub returns : goal.returns

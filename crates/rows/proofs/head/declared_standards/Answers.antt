@@ -2,7 +2,6 @@
 use mathlib.Core.Path.{refl}
 use borrow.Author.Tests.{ne_eqb}
 use Rattle.rows.specs.Format.{declared}
-use borrow.Author.Rules.{rules}
 use Rattle.rows.proofs.head.declared_standards.Goals as goal
 
 pub returns-then-language-eq-C : goal.returns-then-language-eq-C

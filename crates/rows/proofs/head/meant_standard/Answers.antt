@@ -1,7 +1,6 @@
 -- `meant_standard` meets its contract. Assumes nothing.
 use borrow.Author.Tests.{lt-ltb, le-ltb, eq-eqb, ne_eqb}
-use Rattle.rows.specs.Format.{meant, declared}
-use borrow.Author.Rules.{rules}
+use Rattle.rows.specs.Format.{meant}
 use Rattle.rows.proofs.head.meant_standard.Goals as goal
 
 pub returns-then-standard-declared_standards : goal.returns-then-standard-declared_standards

@@ -1,10 +1,6 @@
 -- `read_head` meets its contract: each way out computes with the tests that led to it. Assumes nothing.
-use mathlib.Core.Path.{sym, ap, ◌∙◌}
-use native.Mathlib.Omega.{arith}
-use borrow.Author.Rules.{rules}
 use borrow.Author.Tests.{lt-ltb, le-ltb, lt-leb, le-leb, eq-eqb, ne_eqb}
 use Rattle.rows.specs.Records.{head, head_formed, head_with}
-use borrow.Author.Rules.{rules}
 use Rattle.rows.proofs.head.read_head.Goals as goal
 
 pub returns-then-format-file : goal.returns-then-format-file

@@ -2,7 +2,6 @@
 use mathlib.Core.Path.{refl}
 use borrow.Author.Tests.{ne_eqb}
 use Rattle.rows.specs.Format.{stands_for}
-use borrow.Author.Rules.{rules}
 use Rattle.rows.proofs.head.stands_for.Goals as goal
 
 pub returns-in_default : goal.returns-in_default

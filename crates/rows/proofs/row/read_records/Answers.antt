@@ -1,11 +1,8 @@
 -- `read_records` meets its contract. The loop's invariant: the tokens so far stand in front of the arrays. Assumes nothing.
-use Prim.Native.Nat.{◌-◌}
-use mathlib.Core.Path.{◌≡◌, refl, sym, ◌∙◌}
+use mathlib.Core.Path.{sym, ◌∙◌}
 use native.Mathlib.Omega.{arith}
-use borrow.Author.Rules.{rules}
-use lib.ListN.{length, length-set}
 use Rattle.rows.specs.Laws.Tokens.{formed_fits}
-use Rattle.rows.specs.Laws.RowLoop.{RowLoop, loop_begins, loop_full, loop_malformed, loop_token, loop_ends}
+use Rattle.rows.specs.Laws.RowLoop.{loop_begins, loop_full, loop_malformed, loop_token, loop_ends}
 use Rattle.rows.proofs.row.read_records.Goals as goal
 
 pub loop-at-init : goal.loop-at-init

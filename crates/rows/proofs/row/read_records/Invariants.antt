@@ -1,11 +1,7 @@
 -- `read_records` meets its contract. The loop's invariant: the tokens so far stand in front of the arrays. Assumes nothing.
 use Prim.Native.Nat.{◌-◌}
-use mathlib.Core.Path.{◌≡◌, refl, sym, ◌∙◌}
-use native.Mathlib.Omega.{arith}
-use borrow.Author.Rules.{rules}
-use lib.ListN.{length, length-set}
-use Rattle.rows.specs.Laws.Tokens.{formed_fits}
-use Rattle.rows.specs.Laws.RowLoop.{RowLoop, loop_begins, loop_full, loop_malformed, loop_token, loop_ends}
+use lib.ListN.{length}
+use Rattle.rows.specs.Laws.RowLoop.{RowLoop}
 use Rattle.rows.proofs.row.read_records.Given as goal
 
 abbrev pub invariant-loop-at : goal.invariant-loop-at

@@ -1,9 +1,7 @@
 -- `read_row` meets its contract. Assumes nothing.
 use native.Mathlib.Omega.{arith}
-use borrow.Author.Rules.{rules}
 use Rattle.rows.specs.Laws.RowFacts.{malformed_inside}
 use Rattle.rows.specs.Laws.RowEnd.{taken_there, malformed_there, row_ends, row_too_long, row_malformed}
-use borrow.Author.Rules.{rules}
 use Rattle.rows.proofs.row.read_row.Goals as goal
 
 pub overflow_cast-result : goal.overflow_cast-result

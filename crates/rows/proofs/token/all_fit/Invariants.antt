@@ -1,11 +1,9 @@
 -- `all_fit` meets its contract. The loop's invariant: what is passed fits, and what is left decides. Assumes nothing.
 use Prim.Native.Nat.{◌≤◌, ◌-◌}
-use mathlib.Core.Path.{◌≡◌, refl}
+use mathlib.Core.Path.{◌≡◌}
 use mathlib.Core.Bool.{◌&&◌}
-use native.Mathlib.Omega.{arith}
 use lib.ListN.{length, drop}
 use Rattle.rows.specs.Records.{in_range}
-use Rattle.rows.specs.Laws.Tokens.{one_more, no_more}
 use Rattle.rows.proofs.token.all_fit.Given as goal
 
 abbrev pub invariant-loop-i : goal.invariant-loop-i

@@ -1,7 +1,6 @@
 -- `byte_fits` meets its contract. Assumes nothing.
 use native.Mathlib.Omega.{arith}
 use Rattle.rows.specs.Laws.Tokens.{one_byte}
-use borrow.Author.Rules.{rules}
 use Rattle.rows.proofs.token.byte_fits.Goals as goal
 
 pub returns : goal.returns

@@ -1,7 +1,5 @@
 -- `four_fit` meets its contract. Assumes nothing.
-use native.Mathlib.Omega.{arith}
 use Rattle.rows.specs.Laws.Tokens.{groups_meet}
-use borrow.Author.Rules.{rules}
 use Rattle.rows.proofs.token.four_fit.Goals as goal
 
 pub returns : goal.returns

@@ -3,7 +3,6 @@ use Prim.Native.Nat.{◌-◌, ◌%◌}
 use native.Mathlib.Omega.{arith}
 use lib.ListN.{length, length-take}
 use Rattle.rows.specs.Laws.Tokens.{groups_cover}
-use borrow.Author.Rules.{rules}
 use Rattle.rows.proofs.token.is_word.Goals as goal
 
 pub returns-then-size-lt4 : goal.returns-then-size-lt4

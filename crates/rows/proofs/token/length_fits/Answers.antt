@@ -1,8 +1,6 @@
 -- `length_fits` meets its contract. Assumes nothing.
-use native.Mathlib.Omega.{arith}
-use mathlib.Core.Path.{◌∙◌, refl}
+use mathlib.Core.Path.{◌∙◌}
 use Rattle.rows.specs.Laws.Tokens.{identifier_fits, sign_fits}
-use borrow.Author.Rules.{rules}
 use Rattle.rows.proofs.token.length_fits.Goals as goal
 
 pub returns-then-kind : goal.returns-then-kind

@@ -1,9 +1,6 @@
 -- `span` meets its contract. Assumes nothing.
 use mathlib.Core.Path.{refl}
-use native.Mathlib.Omega.{arith}
-use borrow.Author.Rules.{rules}
 use Rattle.rows.specs.Records.{span_at, span_start_at, span_end_at}
-use borrow.Author.Rules.{rules}
 use Rattle.rows.proofs.token.span.Goals as goal
 
 pub returns : goal.returns

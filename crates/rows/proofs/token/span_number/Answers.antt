@@ -1,7 +1,4 @@
 -- `span_number` meets its contract. Assumes nothing.
-use native.Mathlib.Omega.{arith}
-use Rattle.rows.specs.Format.{bytes_of}
-use borrow.Author.Rules.{rules}
 use Rattle.rows.proofs.token.span_number.Goals as goal
 
 pub four_bytes-requires : goal.four_bytes-requires

@@ -4,7 +4,6 @@ use mathlib.Core.Path.{◌∙◌, sym, refl}
 use mathlib.Core.Bool.{true, false}
 use Rattle.rows.specs.Records.{length_at, kind_at, span_at}
 use Rattle.rows.specs.Laws.Tokens.{cut_off, kind_too_great, span_reversed, by_length}
-use borrow.Author.Rules.{rules}
 use Rattle.rows.proofs.token.token_at.Goals as goal
 
 pub returns-then-file-plain : goal.returns-then-file-plain

@@ -1,8 +1,7 @@
 -- `word` meets its contract. Assumes nothing.
 use native.Mathlib.Omega.{arith}
-use mathlib.Core.Path.{◌≡◌, ◌∙◌, sym}
+use mathlib.Core.Path.{◌∙◌, sym}
 use Rattle.rows.specs.Laws.Tokens.{formed_fits, word_part, word_there, no_word_there}
-use borrow.Author.Rules.{rules}
 use Rattle.rows.proofs.token.word.Goals as goal
 
 pub returns-in_default : goal.returns-in_default

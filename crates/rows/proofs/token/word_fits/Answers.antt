@@ -1,10 +1,7 @@
 -- `word_fits` meets its contract. Assumes nothing.
 use native.Mathlib.Omega.{arith}
-use lib.ListN.{length-take, length-drop}
-use Rattle.rows.specs.Format.{bytes_of}
 use Rattle.rows.specs.Laws.Tokens.{word_too_short, word_too_long, word_cut_off, word_whole}
 use mathlib.Core.Path.{◌∙◌}
-use borrow.Author.Rules.{rules}
 use Rattle.rows.proofs.token.word_fits.Goals as goal
 
 pub returns-then-size-plain : goal.returns-then-size-plain

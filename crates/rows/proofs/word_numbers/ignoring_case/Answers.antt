@@ -1,6 +1,4 @@
 -- `ignoring_case` meets its contract. Assumes nothing.
-use native.Mathlib.Omega.{arith}
-use borrow.Author.Rules.{rules}
 use borrow.Author.Tests.{lt-ltb, le-ltb}
 use Rattle.rows.specs.Words.{ignoring_case}
 use Rattle.rows.proofs.word_numbers.ignoring_case.Goals as goal

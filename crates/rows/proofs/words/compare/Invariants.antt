@@ -1,9 +1,7 @@
 -- `compare` meets its contract. The loop's invariant: the same with case ignored so far. Assumes nothing.
 use Prim.Native.Nat.{◌-◌}
-use mathlib.Core.Bool.{true, false}
-use native.Mathlib.Omega.{arith}
 use lib.ListN.{length}
-use Rattle.rows.specs.Laws.KnownWords.{SoFar, nothing_yet, bytes_differ, bytes_equal, bytes_in_other_case, bytes_ended}
+use Rattle.rows.specs.Laws.KnownWords.{SoFar}
 use Rattle.rows.proofs.words.compare.Given as goal
 
 abbrev pub invariant-loop-i : goal.invariant-loop-i

@@ -2,7 +2,6 @@
 use native.Mathlib.Omega.{arith}
 use mathlib.Core.Path.{sym, ◌∙◌}
 use Rattle.rows.specs.Laws.KnownSearch.{picked, picked_by}
-use borrow.Author.Rules.{rules}
 use Rattle.rows.proofs.words.if_is.Goals as goal
 
 pub overflow_add-result : goal.overflow_add-result

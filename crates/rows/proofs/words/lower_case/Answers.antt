@@ -1,7 +1,6 @@
 -- `lower_case` meets its contract. Assumes nothing.
 use borrow.Author.Tests.{le-leb, lt-leb}
 use Rattle.rows.specs.Words.{lower}
-use borrow.Author.Rules.{rules}
 use Rattle.rows.proofs.words.lower_case.Goals as goal
 
 pub returns-then-byte-lt-CAPITAL_A : goal.returns-then-byte-lt-CAPITAL_A

@@ -1,11 +1,9 @@
 -- `number_of_word` meets its contract. Assumes nothing.
 use mathlib.Core.Path.{refl, sym}
-use native.Mathlib.Omega.{arith}
 use borrow.Author.Tests.{ne_eqb}
 use lib.ListN.{length}
 use Rattle.rows.specs.Words.{known, bytes}
 use Rattle.rows.specs.Laws.KnownSearch.{none, no_length}
-use borrow.Author.Rules.{rules}
 use Rattle.rows.proofs.words.number_of_word.Goals as goal
 
 pub returns-then-size-eq0 : goal.returns-then-size-eq0

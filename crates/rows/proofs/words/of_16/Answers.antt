@@ -4,7 +4,6 @@ use native.Mathlib.Omega.{arith}
 use borrow.Author.Tests.{ne_eqb}
 use Rattle.rows.specs.Words.{known, bytes, lower, number_among}
 use Rattle.rows.specs.Laws.KnownSearch.{kept, none, among_like, no_first}
-use borrow.Author.Rules.{rules}
 use Rattle.rows.proofs.words.of_16.Goals as goal
 
 pub returns-in-116 : goal.returns-in-116

@@ -4,7 +4,6 @@ use native.Mathlib.Omega.{arith}
 use borrow.Author.Tests.{ne_eqb}
 use Rattle.rows.specs.Words.{known, bytes, lower, number_among}
 use Rattle.rows.specs.Laws.KnownSearch.{kept, none, among_like, no_first, like, found, not_found}
-use borrow.Author.Rules.{rules}
 use Rattle.rows.proofs.words.of_5.Goals as goal
 
 pub returns-then-found-ne-NO_WORD : goal.returns-then-found-ne-NO_WORD

@@ -1,6 +1,5 @@
 -- `leaves_buffer` meets its contract. Assumes nothing.
 use mathlib.Core.Path.{refl}
-use borrow.Author.Rules.{rules}
 use Rattle.rule_answers.proofs.matching.leaves_buffer.Goals as goal
 
 pub returns : goal.returns

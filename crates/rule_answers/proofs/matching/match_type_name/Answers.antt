@@ -3,7 +3,6 @@ use native.Mathlib.Omega.{arith}
 use mathlib.Core.Path.{refl, sym, ◌∙◌}
 use Rattle.type_name.specs.Laws.Promised.{promised}
 use Rattle.rule_answers.specs.Laws.Matching.{early_told, answer_left, match_told, accepted_late, refused_late}
-use borrow.Author.Rules.{rules}
 use Rattle.rule_answers.proofs.matching.match_type_name.Goals as goal
 
 pub match_late-requires : goal.match_late-requires

@@ -1,6 +1,4 @@
 -- `settle_match` meets its contract. Assumes nothing.
-use borrow.Author.Rules.{rules}
-use borrow.Author.Rules.{rules}
 use Rattle.rule_answers.proofs.matching.settle_match.Goals as goal
 
 pub returns-in-Refused : goal.returns-in-Refused

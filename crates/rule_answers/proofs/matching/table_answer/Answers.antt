@@ -1,7 +1,6 @@
 -- `table_answer` meets its contract. Assumes nothing.
 use Rattle.rule_answers.specs.Laws.Tables.{table_malformed, table_there}
 use Rattle.rule_answers.specs.Laws.Matching.{table_refused, row_refused, row_accepted}
-use borrow.Author.Rules.{rules}
 use Rattle.rule_answers.proofs.matching.table_answer.Goals as goal
 
 pub returns-in_default : goal.returns-in_default

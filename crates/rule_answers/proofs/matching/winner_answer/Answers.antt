@@ -2,10 +2,8 @@
 use native.Mathlib.Omega.{arith}
 use mathlib.Core.Path.{ap}
 use lib.ListN.{length-take}
-use borrow.Author.Rules.{rules}
 use Rattle.rules.specs.TableStands.{winner_of}
 use Rattle.rule_answers.specs.Laws.Matching.{places_ready, row_there, nodes_there, winner_told, place_below}
-use borrow.Author.Rules.{rules}
 use Rattle.rule_answers.proofs.matching.winner_answer.Goals as goal
 
 pub read_places-tokens-requires : goal.read_places-tokens-requires

@@ -1,8 +1,6 @@
 -- `read_places` meets its contract. The loop's invariant: the tokens so far stand in front of the arrays. Assumes nothing.
-use Prim.Native.Nat.{◌-◌}
-use lib.ListN.{length}
 use native.Mathlib.Omega.{arith}
-use Rattle.rule_answers.specs.Laws.RowPlaces.{PlacesLoop, places_begin, places_end, places_again, not_full, record_fits}
+use Rattle.rule_answers.specs.Laws.RowPlaces.{places_begin, places_end, places_again, not_full, record_fits}
 use Rattle.rule_answers.proofs.row_places.read_places.Goals as goal
 
 pub loop-at-init : goal.loop-at-init

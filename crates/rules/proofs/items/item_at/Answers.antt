@@ -1,8 +1,6 @@
 -- `item_at` meets its contract. Assumes nothing.
-use native.Mathlib.Omega.{arith}
 use mathlib.Core.Path.{◌∙◌}
 use Rattle.rules.specs.Laws.Items.{item_is_word, item_is_kind, item_is_plain, item_is_none}
-use borrow.Author.Rules.{rules}
 use Rattle.rules.proofs.items.item_at.Goals as goal
 
 pub returns-then-byte-eq-WORD : goal.returns-then-byte-eq-WORD

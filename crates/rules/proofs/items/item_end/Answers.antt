@@ -1,8 +1,6 @@
 -- `item_end` meets its contract. Assumes nothing.
 use native.Mathlib.Omega.{arith}
-use mathlib.Core.Path.{sym, ◌∙◌}
 use Rattle.rules.specs.Laws.Stand.{item_moves, word_ends, kind_ends, plain_ends}
-use borrow.Author.Rules.{rules}
 use Rattle.rules.proofs.items.item_end.Goals as goal
 
 pub bounds-table-at : goal.bounds-table-at

@@ -1,7 +1,6 @@
 -- `kind_item` meets its contract. Assumes nothing.
 use native.Mathlib.Omega.{arith}
 use Rattle.rules.specs.Laws.Items.{kind_cut_off, kind_nought, kind_too_great, kind_whole}
-use borrow.Author.Rules.{rules}
 use Rattle.rules.proofs.items.kind_item.Goals as goal
 
 pub returns-then-end-at-lt-AFTER_TWO : goal.returns-then-end-at-lt-AFTER_TWO

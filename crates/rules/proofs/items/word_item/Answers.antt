@@ -3,7 +3,6 @@ use native.Mathlib.Omega.{arith}
 use mathlib.Core.Path.{refl, sym, ◌∙◌}
 use mathlib.Core.Bool.{true, false}
 use Rattle.rules.specs.Laws.Items.{word_cut_off, word_empty, word_whole}
-use borrow.Author.Rules.{rules}
 use Rattle.rules.proofs.items.word_item.Goals as goal
 
 pub returns-then-end-at-lt-AFTER_TWO : goal.returns-then-end-at-lt-AFTER_TWO

@@ -1,9 +1,8 @@
 -- `item_fits` meets its contract. Assumes nothing.
 use native.Mathlib.Omega.{arith}
-use mathlib.Core.Path.{refl, sym, ◌∙◌}
+use mathlib.Core.Path.{◌∙◌}
 use Rattle.rules.specs.Laws.Stand.{item_moves, word_ends, kind_ends}
 use Rattle.rules.specs.Laws.Matching.{any_fits, word_other, word_same, kind_same, group_fits, list_fits}
-use borrow.Author.Rules.{rules}
 use Rattle.rules.proofs.matching.item_fits.Goals as goal
 
 pub bounds-table-item : goal.bounds-table-item

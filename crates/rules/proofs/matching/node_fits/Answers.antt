@@ -1,9 +1,6 @@
 -- `node_fits` meets its contract. Assumes nothing.
 use native.Mathlib.Omega.{arith}
-use borrow.Author.Rules.{rules}
-use mathlib.Core.Path.{◌∙◌}
 use Rattle.rules.specs.Laws.Rows.{not_nothing, token_there, node_told}
-use borrow.Author.Rules.{rules}
 use Rattle.rules.proofs.matching.node_fits.Goals as goal
 
 pub node_at-found-requires : goal.node_at-found-requires

@@ -1,9 +1,6 @@
 -- `rule_matches` meets its contract. The loop's invariant: the items left and the nodes left decide. Assumes nothing.
 use Prim.Native.Nat.{◌-◌}
-use native.Mathlib.Omega.{arith}
-use mathlib.Core.Path.{sym, ◌∙◌}
-use borrow.Author.Tests.{not-true, not-false}
-use Rattle.rules.specs.Laws.MatchLoop.{MatchLoop, match_begins, match_nodes, match_rest, match_ends, match_item, match_no_node, match_misfit, match_again, match_further}
+use Rattle.rules.specs.Laws.MatchLoop.{MatchLoop}
 use Rattle.rules.proofs.matching.rule_matches.Given as goal
 
 abbrev pub invariant-loop-end : goal.invariant-loop-end

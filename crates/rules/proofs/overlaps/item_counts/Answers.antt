@@ -1,8 +1,6 @@
 -- `item_counts` meets its contract. Assumes nothing.
-use native.Mathlib.Omega.{arith}
 use mathlib.Core.Path.{refl, sym}
 use borrow.Author.Tests.{le-ltb, lt-ltb}
-use borrow.Author.Rules.{rules}
 use Rattle.rules.proofs.overlaps.item_counts.Goals as goal
 
 pub returns-then-end-at : goal.returns-then-end-at

@@ -1,9 +1,8 @@
 -- `items_agree` meets its contract. Assumes nothing.
 use native.Mathlib.Omega.{arith}
-use mathlib.Core.Path.{sym, ◌∙◌}
+use mathlib.Core.Path.{◌∙◌}
 use Rattle.rules.specs.Laws.Stand.{item_moves}
 use Rattle.rules.specs.Laws.Meeting.{first_any, second_any, by_bytes}
-use borrow.Author.Rules.{rules}
 use Rattle.rules.proofs.overlaps.items_agree.Goals as goal
 
 pub item_end-first_end-requires : goal.item_end-first_end-requires

@@ -1,9 +1,7 @@
 -- `rules_meet` meets its contract. The loop's invariant: the items left decide. Assumes nothing.
-use Prim.Native.Nat.{◌-◌}
 use native.Mathlib.Omega.{arith}
 use mathlib.Core.Path.{sym, ◌∙◌}
-use borrow.Author.Tests.{not-true, not-false}
-use Rattle.rules.specs.Laws.Meeting.{MeetLoop, meet_begins, first_rest, first_ends, second_ends, some_first, some_second, disagree, meet_again, meet_further}
+use Rattle.rules.specs.Laws.Meeting.{meet_begins, first_rest, first_ends, second_ends, some_first, some_second, disagree, meet_again, meet_further}
 use Rattle.rules.proofs.overlaps.rules_meet.Goals as goal
 
 pub loop-first-init : goal.loop-first-init

@@ -1,9 +1,6 @@
 -- `rules_meet` meets its contract. The loop's invariant: the items left decide. Assumes nothing.
 use Prim.Native.Nat.{◌-◌}
-use native.Mathlib.Omega.{arith}
-use mathlib.Core.Path.{sym, ◌∙◌}
-use borrow.Author.Tests.{not-true, not-false}
-use Rattle.rules.specs.Laws.Meeting.{MeetLoop, meet_begins, first_rest, first_ends, second_ends, some_first, some_second, disagree, meet_again, meet_further}
+use Rattle.rules.specs.Laws.Meeting.{MeetLoop}
 use Rattle.rules.proofs.overlaps.rules_meet.Given as goal
 
 abbrev pub invariant-loop-first : goal.invariant-loop-first

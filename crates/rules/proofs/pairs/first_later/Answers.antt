@@ -1,7 +1,6 @@
 -- `first_later` meets its contract. The loop's invariant: no place so far overlaps. Assumes nothing.
-use Prim.Native.Nat.{◌-◌}
 use native.Mathlib.Omega.{arith}
-use Rattle.rules.specs.Laws.Pairs.{LaterSearch, later_begins, later_found, later_again, later_ends}
+use Rattle.rules.specs.Laws.Pairs.{later_begins, later_found, later_again, later_ends}
 use Rattle.rules.proofs.pairs.first_later.Goals as goal
 
 pub loop-later-init : goal.loop-later-init

@@ -1,7 +1,6 @@
 -- `next_pair` meets its contract. The loop's invariant: what comes after the pair handed in is not before the place reached. Assumes nothing.
-use Prim.Native.Nat.{◌-◌}
 use native.Mathlib.Omega.{arith}
-use Rattle.rules.specs.Laws.Pairs.{PairSearch, pairs_begin, pairs_behind, pair_found, pairs_again, pairs_end}
+use Rattle.rules.specs.Laws.Pairs.{pairs_begin, pairs_behind, pair_found, pairs_again, pairs_end}
 use Rattle.rules.proofs.pairs.next_pair.Goals as goal
 
 pub loop-i-init : goal.loop-i-init

@@ -1,7 +1,6 @@
 -- `places_meet` meets its contract. Assumes nothing.
 use native.Mathlib.Omega.{arith}
 use Rattle.rules.specs.Laws.Pairs.{stands_at, some_at, meet_at}
-use borrow.Author.Rules.{rules}
 use Rattle.rules.proofs.pairs.places_meet.Goals as goal
 
 pub bounds-starts-earlier : goal.bounds-starts-earlier

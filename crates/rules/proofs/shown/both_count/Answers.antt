@@ -1,7 +1,5 @@
 -- `both_count` meets its contract. Assumes nothing.
-use native.Mathlib.Omega.{arith}
 use mathlib.Core.Path.{sym, refl, ◌∙◌}
-use borrow.Author.Rules.{rules}
 use Rattle.rules.proofs.shown.both_count.Goals as goal
 
 pub item_counts-requires : goal.item_counts-requires

@@ -1,11 +1,7 @@
 -- `put_item` meets its contract. Assumes nothing.
 use native.Mathlib.Omega.{arith}
-use lib.ListN.{length}
-use mathlib.Core.Path.{ap, sym, ◌∙◌}
-use Rattle.rules.specs.RuleTable.{item_bytes}
 use Rattle.rules.specs.Laws.Stand.{item_moves}
 use Rattle.rules.specs.Laws.Showing.{item_put, item_length}
-use borrow.Author.Rules.{rules}
 use Rattle.rules.proofs.shown.put_item.Goals as goal
 
 pub item_end-end-requires : goal.item_end-end-requires

@@ -1,8 +1,6 @@
 -- `put_items` meets its contract. The loop's invariant: the items so far stand in the buffer. Assumes nothing.
 use Prim.Native.Nat.{◌-◌}
-use native.Mathlib.Omega.{arith}
-use mathlib.Core.Path.{sym, ◌∙◌}
-use Rattle.rules.specs.Laws.Showing.{PutLoop, put_begins, put_ends, put_room, put_some, put_again, put_further}
+use Rattle.rules.specs.Laws.Showing.{PutLoop}
 use Rattle.rules.proofs.shown.put_items.Given as goal
 
 abbrev pub invariant-loop-output : goal.invariant-loop-output

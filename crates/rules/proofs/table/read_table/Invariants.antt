@@ -1,10 +1,7 @@
 -- `read_table` meets its contract. The loop's invariant: the rules so far stand there. Assumes nothing.
 use Prim.Native.Nat.{◌-◌}
-use native.Mathlib.Omega.{arith}
-use borrow.Author.Rules.{rules}
-use mathlib.Core.Path.{◌∙◌}
-use lib.ListN.{length, length-set}
-use Rattle.rules.specs.Laws.Tables.{TableLoop, table_begins, table_full, table_malformed, table_further, table_again, table_ends}
+use lib.ListN.{length}
+use Rattle.rules.specs.Laws.Tables.{TableLoop}
 use Rattle.rules.proofs.table.read_table.Given as goal
 
 abbrev pub invariant-loop-at : goal.invariant-loop-at

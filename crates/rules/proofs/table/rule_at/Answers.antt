@@ -4,7 +4,6 @@ use mathlib.Core.Path.{refl, sym, ◌∙◌}
 use mathlib.Core.Bool.{true, false}
 use Rattle.rules.specs.RuleTable.{rule_length}
 use Rattle.rules.specs.Laws.Tables.{head_cut_off, other_kind, no_items, record_cut_off, record_whole}
-use borrow.Author.Rules.{rules}
 use Rattle.rules.proofs.table.rule_at.Goals as goal
 
 pub returns-then-table-at-lt-AT_ITEMS : goal.returns-then-table-at-lt-AT_ITEMS

@@ -1,7 +1,6 @@
 -- `find_winner` meets its contract. The loop's invariant: the rules from this place on decide. Assumes nothing.
 use Prim.Native.Nat.{◌-◌}
-use native.Mathlib.Omega.{arith}
-use Rattle.rules.specs.Laws.Winners.{WinnerLoop, winner_begins, winner_here, winner_again, winner_ends}
+use Rattle.rules.specs.Laws.Winners.{WinnerLoop}
 use Rattle.rules.proofs.winner.find_winner.Given as goal
 
 abbrev pub invariant-loop-place : goal.invariant-loop-place

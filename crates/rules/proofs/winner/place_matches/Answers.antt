@@ -2,7 +2,6 @@
 use native.Mathlib.Omega.{arith}
 use Rattle.rules.specs.Laws.Pairs.{stands_at, some_at}
 use Rattle.rules.specs.Laws.Winners.{place_told}
-use borrow.Author.Rules.{rules}
 use Rattle.rules.proofs.winner.place_matches.Goals as goal
 
 pub bounds-starts-place : goal.bounds-starts-place

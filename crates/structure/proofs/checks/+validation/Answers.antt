@@ -1,27 +1,21 @@
 -- The proof of the checks that call one another. The measure is eight for each node of the range, and a rank: a check of the nodes below has fewer
 -- nodes, and one of the same nodes a lower rank.
 -- Assumes nothing.
-use Prim.Native.Nat.{◌+◌, ◌*◌, ◌-◌, ◌≤◌}
-use mathlib.Core.Path.{◌≡◌, refl, sym, ◌∙◌}
+use mathlib.Core.Path.{refl, sym, ◌∙◌}
 use native.Mathlib.Omega.{arith}
-use borrow.Author.Rules.{rules}
-use borrow.Author.Tests.{ne_eqb, not-true, not-false}
-use denote.Enum.Declared.{tag_of}
-use Rattle.structure.specs.contracts.moves.Verdict.{the_type}
-use Rattle.type_nodes.specs.Moves.{arguments}
+use borrow.Author.Tests.{ne_eqb}
 use Rattle.structure.specs.Declarators.{type_end, declarator_end}
-use Rattle.structure.specs.Checks.{checked, test, validate_cpp_template_argument, validate_parameter, validate_parameter_type_list}
-use Rattle.structure.specs.Laws.Limits.{not_holds, not_fails, stops_unless_holds, settles_unless_fails, limited_no}
+use Rattle.structure.specs.Checks.{test, validate_cpp_template_argument, validate_parameter, validate_parameter_type_list}
+use Rattle.structure.specs.Laws.Limits.{stops_unless_holds, settles_unless_fails, limited_no}
 use Rattle.structure.specs.Laws.Walks.{walk_start, walk_formed, walk_stops, walk_holds, walk_further, walk_fits, walk_below, walk_after}
 use Rattle.structure.specs.Laws.Loops.{entry_spent, entry, head_fails, head_holds, run_start, run_end, run_stop, run_on, run_stops, run_inside}
-use Rattle.structure.specs.Laws.Checks.{InType, InDeclarator, InExpression, type_entry, declarator_entry, expression_entry, word_type, no_word_before, type_moved}
+use Rattle.structure.specs.Laws.Checks.{type_entry, declarator_entry, expression_entry, word_type, no_word_before, type_moved}
 use Rattle.structure.specs.Laws.Checks.{at_word, at_wrong_word, at_scope, at_list}
 use Rattle.structure.specs.Laws.Checks.{declarator_moved, expression_moved, waits_on, waits_inside}
 use Rattle.structure.specs.Laws.Inside.{empty_of, full_of, no_node, some_node, no_bound, bound_of, by_name, either_held, either_else, both_failed, both_then}
 use Rattle.structure.specs.Laws.Inside.{first_settles, then_second, told, inside_declarator, group_declarator, group_parameters, parameters_start}
-use Rattle.structure.specs.Laws.Every.{InElements, InArguments, elements_past, elements_fit, elements_ready, elements_comma, elements_turn, elements_last, elements_next, arguments_end}
+use Rattle.structure.specs.Laws.Every.{elements_past, elements_fit, elements_ready, elements_comma, elements_turn, elements_last, elements_next, arguments_end}
 use Rattle.structure.specs.Laws.Every.{arguments_turn}
-use Prim.Native.Nat.{ℕ, ◌<◌}
 use Rattle.structure.proofs.checks.+validation.Goals as goal
 
 pub arguments-loop-at-init : goal.arguments-loop-at-init

@@ -1,10 +1,6 @@
 -- `abstract_declarator_node` meets its contract: an arm of the table at each way out. Assumes nothing.
-use mathlib.Core.Path.{◌≡◌, sym, ap, ◌∙◌}
-use mathlib.Core.Bool.{Bool, ◌&&◌, not}
-use native.Mathlib.Omega.{arith}
-use borrow.Author.Rules.{rules}
+use mathlib.Core.Path.{sym, ◌∙◌}
 use Rattle.structure.specs.Laws.Tables.{declarator_1, declarator_2, declarator_3, declarator_4, declarator_5, declarator_6, declarator_7, declarator_8}
-use borrow.Author.Rules.{rules}
 use Rattle.structure.proofs.declarators.abstract_declarator_node.Goals as goal
 
 pub returns-then-shape-eq-STAR : goal.returns-then-shape-eq-STAR

@@ -1,10 +1,6 @@
 -- `c_family_group` meets its contract: an arm of the table at each way out. Assumes nothing.
-use mathlib.Core.Path.{◌≡◌, sym, ap, ◌∙◌}
-use mathlib.Core.Bool.{Bool, ◌&&◌, not}
-use native.Mathlib.Omega.{arith}
-use borrow.Author.Rules.{rules}
+use mathlib.Core.Path.{sym, ◌∙◌}
 use Rattle.structure.specs.Laws.Tables.{group_1, group_2, group_3, group_4, group_5, group_6}
-use borrow.Author.Rules.{rules}
 use Rattle.structure.proofs.declarators.c_family_group.Goals as goal
 
 pub returns-then-before-eq-DECLTYPE : goal.returns-then-before-eq-DECLTYPE

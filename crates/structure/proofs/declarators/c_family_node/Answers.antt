@@ -1,11 +1,7 @@
 -- `c_family_node` meets its contract: an arm of the table at each way out. Assumes nothing.
-use mathlib.Core.Path.{◌≡◌, sym, ap, ◌∙◌}
-use mathlib.Core.Bool.{Bool, ◌&&◌, not}
-use native.Mathlib.Omega.{arith}
-use borrow.Author.Rules.{rules}
+use mathlib.Core.Path.{sym, ◌∙◌}
 use borrow.Author.Tests.{eqb-false}
 use Rattle.structure.specs.Laws.Tables.{type_2, type_3, type_4, type_5, type_6, type_7, type_8}
-use borrow.Author.Rules.{rules}
 use Rattle.structure.proofs.declarators.c_family_node.Goals as goal
 
 pub returns-then-shape-eq-SCOPE : goal.returns-then-shape-eq-SCOPE

@@ -1,7 +1,5 @@
 -- `is_type_word` meets its contract. Assumes nothing.
 use native.Mathlib.Omega.{arith}
-use borrow.Author.Rules.{rules}
-use borrow.Author.Rules.{rules}
 use Rattle.structure.proofs.declarators.is_type_word.Goals as goal
 
 pub is_single_token-requires : goal.is_single_token-requires

@@ -1,5 +1,4 @@
 -- `takes_list` meets its contract. Assumes nothing.
-use borrow.Author.Rules.{rules}
 use borrow.Author.Tests.{ne_eqb}
 use Rattle.structure.proofs.declarators.takes_list.Goals as goal
 

@@ -1,7 +1,5 @@
 -- `takes_scope` meets its contract. Assumes nothing.
-use borrow.Author.Rules.{rules}
 use borrow.Author.Tests.{ne_eqb}
-use borrow.Author.Rules.{rules}
 use Rattle.structure.proofs.declarators.takes_scope.Goals as goal
 
 pub returns-then-shape-ne-SCOPE : goal.returns-then-shape-ne-SCOPE

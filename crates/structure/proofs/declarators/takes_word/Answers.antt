@@ -1,6 +1,4 @@
 -- `takes_word` meets its contract. Assumes nothing.
-use borrow.Author.Rules.{rules}
-use borrow.Author.Rules.{rules}
 use Rattle.structure.proofs.declarators.takes_word.Goals as goal
 
 pub returns-then-declarator_started : goal.returns-then-declarator_started

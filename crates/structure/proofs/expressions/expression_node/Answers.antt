@@ -1,11 +1,8 @@
 -- `expression_node` meets its contract: an arm of the table at each way out. Assumes nothing.
-use mathlib.Core.Path.{◌≡◌, sym, ap, ◌∙◌}
-use mathlib.Core.Bool.{Bool, ◌&&◌, not}
+use mathlib.Core.Path.{sym, ◌∙◌}
 use native.Mathlib.Omega.{arith}
-use borrow.Author.Rules.{rules}
 use Rattle.structure.specs.Laws.Waits.{again}
 use Rattle.structure.specs.Laws.Tables.{expression_1, expression_2, expression_3, expression_4, expression_5, expression_6, expression_7, expression_8, expression_9, expression_10, expression_11, expression_12, expression_13, expression_14}
-use borrow.Author.Rules.{rules}
 use Rattle.structure.proofs.expressions.expression_node.Goals as goal
 
 pub returns-then-shape-eq-IDENTIFIER : goal.returns-then-shape-eq-IDENTIFIER

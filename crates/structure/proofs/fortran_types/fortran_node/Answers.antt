@@ -1,8 +1,4 @@
 -- `fortran_node` meets its contract: an arm of the table at each way out. Assumes nothing.
-use mathlib.Core.Path.{◌≡◌, sym, ap, ◌∙◌}
-use mathlib.Core.Bool.{Bool, ◌&&◌, not}
-use native.Mathlib.Omega.{arith}
-use borrow.Author.Rules.{rules}
 use Rattle.structure.specs.Laws.Tables.{fortran_1, fortran_2, fortran_3, fortran_4}
 use Rattle.structure.proofs.fortran_types.fortran_node.Goals as goal
 

@@ -1,10 +1,7 @@
 -- `head_holds` meets its contract. Assumes nothing.
-use mathlib.Core.Path.{◌≡◌, sym, ◌∙◌}
-use native.Mathlib.Omega.{arith}
-use borrow.Author.Rules.{rules}
+use mathlib.Core.Path.{sym, ◌∙◌}
 use borrow.Author.Tests.{eq-eqb, ne_eqb}
 use Rattle.structure.specs.FortranTypes.{fortran_head}
-use borrow.Author.Rules.{rules}
 use Rattle.structure.proofs.fortran_types.head_holds.Goals as goal
 
 pub returns-then-shape-ne-IDENTIFIER : goal.returns-then-shape-ne-IDENTIFIER

@@ -1,10 +1,7 @@
 -- `validate_fortran_type_head` meets its contract. Assumes nothing.
-use native.Mathlib.Omega.{arith}
-use borrow.Author.Rules.{rules}
 use Rattle.type_nodes.specs.Nodes.{next}
 use Rattle.type_nodes.specs.Laws.Siblings.{found_there, found_nothing}
 use Rattle.structure.specs.Laws.Heads.{no_head, after_found, formed_after, head_there}
-use borrow.Author.Rules.{rules}
 use Rattle.structure.proofs.fortran_types.validate_fortran_type_head.Goals as goal
 
 pub node_at-found-requires : goal.node_at-found-requires

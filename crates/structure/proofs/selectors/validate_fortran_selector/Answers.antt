@@ -1,10 +1,7 @@
 -- `validate_fortran_selector` meets its contract. Assumes nothing.
-use mathlib.Core.Path.{◌≡◌, refl}
 use native.Mathlib.Omega.{arith}
-use borrow.Author.Rules.{rules}
 use Rattle.type_nodes.specs.Laws.Commas.{shaped_range, formed_next}
 use Rattle.structure.specs.Laws.Inside.{selector_value, selector_name, selector_without, selector_with}
-use borrow.Author.Rules.{rules}
 use Rattle.structure.proofs.selectors.validate_fortran_selector.Goals as goal
 
 pub shape_at-requires : goal.shape_at-requires

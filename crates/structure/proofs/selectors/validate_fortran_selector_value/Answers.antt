@@ -1,10 +1,8 @@
 -- `validate_fortran_selector_value` meets its contract. Assumes nothing.
-use mathlib.Core.Path.{◌≡◌, refl}
+use mathlib.Core.Path.{refl}
 use native.Mathlib.Omega.{arith}
-use borrow.Author.Rules.{rules}
 use Rattle.structure.specs.Selectors.{validate_fortran_selector_value}
 use Rattle.structure.specs.Laws.Inside.{value_of, either_held, either_else}
-use borrow.Author.Rules.{rules}
 use Rattle.structure.proofs.selectors.validate_fortran_selector_value.Goals as goal
 
 pub is_single_token-star-requires : goal.is_single_token-star-requires

@@ -1,10 +1,7 @@
 -- `validate_structured_syntax` meets its contract. Assumes nothing.
-use mathlib.Core.Path.{◌≡◌}
-use borrow.Author.Rules.{rules}
 use borrow.Author.Tests.{eq-eqb, ne_eqb}
 use Rattle.structure.specs.Syntax.{validate_structured_syntax}
 use Rattle.structure.specs.Laws.Inside.{by_name}
-use borrow.Author.Rules.{rules}
 use Rattle.structure.proofs.syntax.validate_structured_syntax.Goals as goal
 
 pub validate_fortran_type-requires : goal.validate_fortran_type-requires

@@ -1,8 +1,6 @@
 -- `answer_list` meets its contract. Assumes nothing.
 use native.Mathlib.Omega.{arith}
-use borrow.Author.Rules.{rules}
 use Rattle.type_list.specs.Laws.ListEntry.{list_fits, list_settled}
-use borrow.Author.Rules.{rules}
 use Rattle.type_list.proofs.entry.answer_list.Goals as goal
 
 pub read_parts-answer-requires : goal.read_parts-answer-requires

@@ -1,11 +1,9 @@
 -- `parse_type_list` meets its contract. Assumes nothing.
 use native.Mathlib.Omega.{arith}
 use mathlib.Core.Path.{refl}
-use borrow.Author.Rules.{rules}
-use lib.ListN.{length, length-take}
+use lib.ListN.{length-take}
 use Rattle.type_name.specs.Laws.EntryFile.{file_refused, file_taken, counted, row_ready}
 use Rattle.type_list.specs.Laws.ListEntry.{untouched_answer, of_row, row_told}
-use borrow.Author.Rules.{rules}
 use Rattle.type_list.proofs.entry.parse_type_list.Goals as goal
 
 pub read_file-row-requires : goal.read_file-row-requires

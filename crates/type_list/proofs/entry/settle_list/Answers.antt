@@ -1,9 +1,4 @@
 -- `settle_list` meets its contract. Assumes nothing.
-use mathlib.Core.Path.{refl, sym, ap, ◌∙◌, subst}
-use borrow.Author.Rules.{rules}
-use Rattle.type_name.specs.EntrySays.{TreeFits, settled}
-use Rattle.type_list.specs.ListSays.{as_one}
-use borrow.Author.Rules.{rules}
 use Rattle.type_list.proofs.entry.settle_list.Goals as goal
 
 pub settle-requires : goal.settle-requires

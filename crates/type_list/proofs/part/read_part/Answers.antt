@@ -1,11 +1,9 @@
 -- `read_part` meets its contract. Assumes nothing.
-use mathlib.Core.Path.{refl, sym, ap, ◌∙◌}
+use mathlib.Core.Path.{ap, ◌∙◌}
 use native.Mathlib.Omega.{arith}
-use borrow.Author.Rules.{rules}
 use lib.ListN.{length, length-take}
 use Rattle.type_list.specs.ListSays.{length_by}
 use Rattle.type_list.specs.Laws.PartAnswers.{length_by_answer, all_part, part_room}
-use borrow.Author.Rules.{rules}
 use Rattle.type_list.proofs.part.read_part.Goals as goal
 
 pub slice_bounds-read_checked-end : goal.slice_bounds-read_checked-end

@@ -1,10 +1,7 @@
 -- `up_to_cut` meets its contract. Assumes nothing.
 use mathlib.Core.Path.{sym, ap, ◌∙◌}
-use native.Mathlib.Omega.{arith}
-use borrow.Author.Rules.{rules}
 use Rattle.rows.specs.declared.answer.Refusal.{Refusal}
 use Rattle.type_list.specs.Laws.Cuts.{cut_at, no_cut_at}
-use borrow.Author.Rules.{rules}
 use Rattle.type_list.proofs.part.up_to_cut.Goals as goal
 
 pub returns-then-refusal-eq-CUT_NUMBER : goal.returns-then-refusal-eq-CUT_NUMBER

@@ -1,11 +1,9 @@
 -- `read_parts` meets its contract. The loop's invariant: the trees of the parts so far stand in front of the buffer, and the parts left decide.
 -- Assumes nothing.
-use Prim.Native.Nat.{◌+◌, ◌-◌, ◌≤◌}
-use mathlib.Core.Path.{◌≡◌, refl, sym, ◌∙◌}
-use native.Mathlib.Omega.{arith}
-use borrow.Author.Rules.{rules}
+use Prim.Native.Nat.{◌+◌, ◌-◌}
+use mathlib.Core.Path.{◌≡◌}
 use lib.ListN.{length}
-use Rattle.type_list.specs.Laws.Loop.{PartsLoop, parts_begin, parts_refused, parts_again, parts_end}
+use Rattle.type_list.specs.Laws.Loop.{PartsLoop}
 use Rattle.type_list.proofs.parts.read_parts.Given as goal
 
 abbrev pub invariant-loop-taken : goal.invariant-loop-taken

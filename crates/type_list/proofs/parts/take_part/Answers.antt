@@ -1,10 +1,8 @@
 -- `take_part` meets its contract. Assumes nothing.
-use mathlib.Core.Path.{refl, sym, ap, ◌∙◌}
+use mathlib.Core.Path.{refl, ap}
 use native.Mathlib.Omega.{arith}
-use borrow.Author.Rules.{rules}
 use Rattle.type_name.specs.Laws.Fields.{steps_in}
 use Rattle.type_list.specs.Laws.PartAnswers.{part_ready, next_within, next_steps, next_nodes, next_told, told_refused, accepted_next}
-use borrow.Author.Rules.{rules}
 use Rattle.type_list.proofs.parts.take_part.Goals as goal
 
 pub read_part-part-requires : goal.read_part-part-requires

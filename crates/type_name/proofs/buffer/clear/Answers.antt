@@ -1,11 +1,10 @@
 -- `clear` meets its contract: the first i numbers are 0, and the others are as they were. Assumes nothing.
-use Prim.Native.Nat.{ℕ, ◌-◌, ◌≤◌, zero-le}
+use Prim.Native.Nat.{ℕ, zero-le}
 use mathlib.Core.Path.{◌≡◌, refl, ap, ◌∙◌}
-use mathlib.Core.List.{List, ◌++◌, append-nil}
+use mathlib.Core.List.{List, append-nil}
 use native.Mathlib.Omega.{arith}
-use lib.ListN.{length, set, drop, replicate, length-set}
+use lib.ListN.{length, set, length-set}
 use lib.Seq.{drop-length}
-use borrow.Author.Rules.{rules}
 use borrow.Author.Fill.{fill_more}
 use Rattle.type_name.proofs.buffer.clear.Goals as goal
 

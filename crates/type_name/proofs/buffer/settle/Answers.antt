@@ -1,8 +1,6 @@
 -- `settle` meets its contract. Assumes nothing.
 use native.Mathlib.Omega.{arith}
-use borrow.Author.Rules.{rules}
 use Rattle.type_name.specs.Laws.FinalBuffer.{accepted_fits, settled_tree, settled_refused}
-use borrow.Author.Rules.{rules}
 use Rattle.type_name.proofs.buffer.settle.Goals as goal
 
 pub slice_bounds-clear-count : goal.slice_bounds-clear-count

@@ -1,8 +1,6 @@
 -- `answer_row` meets its contract. Assumes nothing.
 use native.Mathlib.Omega.{arith}
-use borrow.Author.Rules.{rules}
 use Rattle.type_name.specs.Laws.FinalBuffer.{told_fits, told_settled}
-use borrow.Author.Rules.{rules}
 use Rattle.type_name.proofs.entry.answer_row.Goals as goal
 
 pub settle-requires : goal.settle-requires

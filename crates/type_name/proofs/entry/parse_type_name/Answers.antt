@@ -1,10 +1,8 @@
 -- `parse_type_name` meets its contract: the three demands. Assumes nothing.
 use native.Mathlib.Omega.{arith}
 use mathlib.Core.Path.{refl}
-use borrow.Author.Rules.{rules}
-use lib.ListN.{length, length-take}
+use lib.ListN.{length-take}
 use Rattle.type_name.specs.Laws.EntryFile.{file_refused, file_taken, counted, row_ready, untouched_told, row_told}
-use borrow.Author.Rules.{rules}
 use Rattle.type_name.proofs.entry.parse_type_name.Goals as goal
 
 pub read_file-row-requires : goal.read_file-row-requires

@@ -1,9 +1,6 @@
 -- `read_file` meets its contract. Assumes nothing.
 use mathlib.Core.Path.{sym, ◌∙◌}
-use native.Mathlib.Omega.{arith}
-use borrow.Author.Rules.{rules}
 use Rattle.type_name.specs.Laws.FileRow.{head_refused}
-use borrow.Author.Rules.{rules}
 use Rattle.type_name.proofs.file_row.read_file.Goals as goal
 
 pub read_records-requires : goal.read_records-requires

@@ -1,10 +1,7 @@
 -- `read_records` meets its contract. Assumes nothing.
-use mathlib.Core.Path.{sym, ◌∙◌, subst}
 use native.Mathlib.Omega.{arith}
-use borrow.Author.Rules.{rules}
 use Rattle.type_name.specs.Laws.FileRow.{head_short, row_refused, row_short, row_fits}
 use Rattle.type_name.specs.Laws.EntryFile.{kinds_front, records_refused, records_taken, taken_few, words_front}
-use borrow.Author.Rules.{rules}
 use Rattle.type_name.proofs.file_row.read_records.Goals as goal
 
 pub read_row-row-requires : goal.read_row-row-requires

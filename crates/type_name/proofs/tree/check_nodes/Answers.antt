@@ -1,13 +1,7 @@
 -- `check_nodes` meets its contract. Assumes nothing.
 use mathlib.Core.Path.{sym, ◌∙◌}
-use mathlib.Core.Bool.{true, false}
 use native.Mathlib.Omega.{arith}
-use borrow.Author.Rules.{rules}
-use borrow.Author.Tests.{not-true, not-false}
-use Rattle.reader.specs.Nodes.{Nodes}
-use Rattle.type_name.specs.EntrySays.{TreeIn}
 use Rattle.type_name.specs.Laws.Entry.{left_within, tree_ready, steps_added, unchecked, verdict_told}
-use borrow.Author.Rules.{rules}
 use Rattle.type_name.proofs.tree.check_nodes.Goals as goal
 
 pub overflow_cast-count : goal.overflow_cast-count

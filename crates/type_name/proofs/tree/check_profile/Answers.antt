@@ -1,9 +1,6 @@
 -- `check_profile` meets its contract. Assumes nothing.
 use mathlib.Core.Path.{sym, ap, ◌∙◌}
-use native.Mathlib.Omega.{arith}
-use borrow.Author.Rules.{rules}
 use Rattle.type_name.specs.EntrySays.{profile_answer}
-use borrow.Author.Rules.{rules}
 use Rattle.type_name.proofs.tree.check_profile.Goals as goal
 
 pub validate_profile_features-lack-requires : goal.validate_profile_features-lack-requires

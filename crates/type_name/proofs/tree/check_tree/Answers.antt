@@ -1,8 +1,5 @@
 -- `check_tree` meets its contract. Assumes nothing.
-use native.Mathlib.Omega.{arith}
-use borrow.Author.Rules.{rules}
 use Rattle.type_name.specs.Laws.Entry.{nodes_ready, says_tree, says_refused, says_over}
-use borrow.Author.Rules.{rules}
 use Rattle.type_name.proofs.tree.check_tree.Goals as goal
 
 pub check_nodes-requires : goal.check_nodes-requires

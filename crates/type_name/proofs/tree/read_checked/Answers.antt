@@ -1,8 +1,5 @@
 -- `read_checked` meets its contract. Assumes nothing.
-use native.Mathlib.Omega.{arith}
-use borrow.Author.Rules.{rules}
 use Rattle.type_name.specs.Answers.{answer_of, unlimited}
-use borrow.Author.Rules.{rules}
 use Rattle.type_name.proofs.tree.read_checked.Goals as goal
 
 pub read_tree-parsed-requires : goal.read_tree-parsed-requires

@@ -1,8 +1,6 @@
 -- `read_tree` meets its contract. Assumes nothing.
 use native.Mathlib.Omega.{arith}
-use borrow.Author.Rules.{rules}
 use Rattle.type_name.specs.Laws.Entry.{scan_refused, scan_passed, row_tree_refused, row_tree_parsed}
-use borrow.Author.Rules.{rules}
 use Rattle.type_name.proofs.tree.read_tree.Goals as goal
 
 pub prescan_row-scanned-requires : goal.prescan_row-scanned-requires

@@ -1,8 +1,6 @@
 -- `any` meets its contract. Assumes nothing.
-use Prim.Native.Nat.{◌-◌}
 use native.Mathlib.Omega.{arith}
-use borrow.Author.Rules.{rules}
-use Rattle.type_nodes.specs.Laws.Found.{AnyLoop, any_start, any_formed, any_here, any_further, any_fits, any_next, any_end}
+use Rattle.type_nodes.specs.Laws.Found.{any_start, any_formed, any_here, any_further, any_fits, any_next, any_end}
 use Rattle.type_nodes.proofs.abstract_declarators.any.Goals as goal
 
 pub loop-at-init : goal.loop-at-init

@@ -1,8 +1,5 @@
 -- `looks_like_abstract_declarator` meets its contract. Assumes nothing.
-use native.Mathlib.Omega.{arith}
-use borrow.Author.Rules.{rules}
 use Rattle.type_nodes.specs.AbstractDeclarators.{looks_like_abstract_declarator}
-use borrow.Author.Rules.{rules}
 use Rattle.type_nodes.proofs.abstract_declarators.looks_like_abstract_declarator.Goals as goal
 
 pub returns-then-is_declarator_start : goal.returns-then-is_declarator_start

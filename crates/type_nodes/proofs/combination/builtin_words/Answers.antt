@@ -1,12 +1,9 @@
 -- `builtin_words` meets its contract. Assumes nothing.
 use mathlib.Core.Path.{refl}
-use native.Mathlib.Omega.{arith}
-use borrow.Author.Rules.{rules}
 use Rattle.type_nodes.specs.Sets.{builtin_type_words}
 use Rattle.type_nodes.specs.Combination.{builtin_words}
 use Rattle.type_nodes.specs.Laws.Bounds.{all_below}
 use Rattle.type_nodes.specs.Laws.Counts.{counted}
-use borrow.Author.Rules.{rules}
 use Rattle.type_nodes.proofs.combination.builtin_words.Goals as goal
 
 pub how_many-requires : goal.how_many-requires

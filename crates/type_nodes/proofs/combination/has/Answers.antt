@@ -1,8 +1,5 @@
 -- `has` meets its contract. Assumes nothing.
-use native.Mathlib.Omega.{arith}
-use borrow.Author.Rules.{rules}
 use Rattle.type_nodes.specs.Combination.{has}
-use borrow.Author.Rules.{rules}
 use Rattle.type_nodes.proofs.combination.has.Goals as goal
 
 pub returns : goal.returns

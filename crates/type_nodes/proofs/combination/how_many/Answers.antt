@@ -1,10 +1,6 @@
 -- `how_many` meets its contract. Assumes nothing.
-use Prim.Native.Nat.{◌+◌, ◌-◌, ◌≤◌}
-use mathlib.Core.Path.{◌≡◌, refl, sym, ◌∙◌}
+use mathlib.Core.Path.{sym, ◌∙◌}
 use native.Mathlib.Omega.{arith}
-use borrow.Author.Rules.{rules}
-use lib.ListN.{length, drop}
-use Rattle.type_nodes.specs.Combination.{how_many}
 use Rattle.type_nodes.specs.Laws.Counts.{all_left, one_met, one_not_met, none_left}
 use Rattle.type_nodes.proofs.combination.how_many.Goals as goal
 

@@ -1,11 +1,8 @@
 -- `how_many` meets its contract. Assumes nothing.
 use Prim.Native.Nat.{◌+◌, ◌-◌, ◌≤◌}
-use mathlib.Core.Path.{◌≡◌, refl, sym, ◌∙◌}
-use native.Mathlib.Omega.{arith}
-use borrow.Author.Rules.{rules}
+use mathlib.Core.Path.{◌≡◌}
 use lib.ListN.{length, drop}
 use Rattle.type_nodes.specs.Combination.{how_many}
-use Rattle.type_nodes.specs.Laws.Counts.{all_left, one_met, one_not_met, none_left}
 use Rattle.type_nodes.proofs.combination.how_many.Given as goal
 
 abbrev pub invariant-loop-i : goal.invariant-loop-i

@@ -1,9 +1,6 @@
 -- `times` meets its contract. Assumes nothing.
 use mathlib.Core.Path.{refl}
-use native.Mathlib.Omega.{arith}
-use borrow.Author.Rules.{rules}
 use Rattle.type_nodes.specs.Combination.{times}
-use borrow.Author.Rules.{rules}
 use Rattle.type_nodes.proofs.combination.times.Goals as goal
 
 pub returns : goal.returns

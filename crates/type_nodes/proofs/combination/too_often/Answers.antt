@@ -1,11 +1,6 @@
 -- `too_often` meets its contract. Assumes nothing.
-use Prim.Native.Nat.{◌-◌, ◌≤◌}
-use mathlib.Core.Path.{◌≡◌, refl}
-use mathlib.Core.Bool.{◌||◌}
+use mathlib.Core.Path.{refl}
 use native.Mathlib.Omega.{arith}
-use borrow.Author.Rules.{rules}
-use lib.ListN.{length, drop}
-use Rattle.type_nodes.specs.Combination.{too_often}
 use Rattle.type_nodes.specs.Laws.Counts.{one_often, all_often}
 use Rattle.type_nodes.proofs.combination.too_often.Goals as goal
 

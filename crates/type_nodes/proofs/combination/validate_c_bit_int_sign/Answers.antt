@@ -1,8 +1,5 @@
 -- `validate_c_bit_int_sign` meets its contract. Assumes nothing.
-use native.Mathlib.Omega.{arith}
-use borrow.Author.Rules.{rules}
 use Rattle.type_nodes.specs.Combination.{no_builtin_word, validate_c_bit_int_sign}
-use borrow.Author.Rules.{rules}
 use Rattle.type_nodes.proofs.combination.validate_c_bit_int_sign.Goals as goal
 
 pub returns : goal.returns

@@ -1,12 +1,9 @@
 -- `validate_c_builtin_combination` meets its contract. Assumes nothing.
 use mathlib.Core.Path.{refl}
-use native.Mathlib.Omega.{arith}
-use borrow.Author.Rules.{rules}
 use Rattle.type_nodes.specs.Sets.{builtin_type_words, scalar_bases}
 use Rattle.type_nodes.specs.Combination.{builtin_words, validate_c_builtin_combination}
 use Rattle.type_nodes.specs.Laws.Bounds.{all_below}
 use Rattle.type_nodes.specs.Laws.Counts.{counted}
-use borrow.Author.Rules.{rules}
 use Rattle.type_nodes.proofs.combination.validate_c_builtin_combination.Goals as goal
 
 pub too_often-requires : goal.too_often-requires

@@ -1,6 +1,4 @@
 -- `exact_word` meets its contract. Assumes nothing.
-use borrow.Author.Rules.{rules}
-use borrow.Author.Rules.{rules}
 use Rattle.type_nodes.proofs.nodes.exact_word.Goals as goal
 
 pub returns : goal.returns

@@ -1,11 +1,5 @@
 -- `is_ellipsis` meets its contract: from dot to dot. Assumes nothing.
-use Prim.Native.Nat.{◌-◌, suc}
-use mathlib.Core.Path.{◌≡◌, refl, sym, ◌∙◌}
-use native.Mathlib.Omega.{arith}
-use borrow.Author.Rules.{rules}
-use borrow.Author.Tests.{not-true, not-false}
 use Rattle.type_nodes.specs.Laws.Commas.{inside_range, formed_next, no_dot_1, no_dot_2, no_dot_3, dots}
-use borrow.Author.Rules.{rules}
 use Rattle.type_nodes.proofs.nodes.is_ellipsis.Goals as goal
 
 pub shape_at-requires : goal.shape_at-requires

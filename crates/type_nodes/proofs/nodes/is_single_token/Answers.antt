@@ -1,11 +1,5 @@
 -- `is_single_token` meets its contract. Assumes nothing.
-use Prim.Native.Nat.{◌-◌, suc}
-use mathlib.Core.Path.{◌≡◌, refl, sym, ◌∙◌}
-use native.Mathlib.Omega.{arith}
-use borrow.Author.Rules.{rules}
-use borrow.Author.Tests.{not-true, not-false}
 use Rattle.type_nodes.specs.Laws.Siblings.{found_there, found_nothing, single_none, single_node}
-use borrow.Author.Rules.{rules}
 use Rattle.type_nodes.proofs.nodes.is_single_token.Goals as goal
 
 pub node_at-found-requires : goal.node_at-found-requires

@@ -1,11 +1,7 @@
 -- `node_at` meets its contract. Assumes nothing.
-use Prim.Native.Nat.{◌-◌, suc}
-use mathlib.Core.Path.{◌≡◌, refl, sym, ◌∙◌}
+use mathlib.Core.Path.{◌∙◌}
 use native.Mathlib.Omega.{arith}
-use borrow.Author.Rules.{rules}
-use borrow.Author.Tests.{not-true, not-false}
 use Rattle.type_nodes.specs.Laws.Siblings.{nothing_left, first}
-use borrow.Author.Rules.{rules}
 use Rattle.type_nodes.proofs.nodes.node_at.Goals as goal
 
 pub returns-then-at-to : goal.returns-then-at-to

@@ -1,11 +1,6 @@
 -- `node_end` meets its contract. Assumes nothing.
-use Prim.Native.Nat.{◌-◌, suc}
-use mathlib.Core.Path.{◌≡◌, refl, sym, ◌∙◌}
 use native.Mathlib.Omega.{arith}
-use borrow.Author.Rules.{rules}
-use borrow.Author.Tests.{not-true, not-false}
 use Rattle.type_nodes.specs.Laws.Siblings.{read_end, read_fits}
-use borrow.Author.Rules.{rules}
 use Rattle.type_nodes.proofs.nodes.node_end.Goals as goal
 
 pub node_extent-requires : goal.node_extent-requires

@@ -1,11 +1,6 @@
 -- `node_identifier` meets its contract. Assumes nothing.
-use Prim.Native.Nat.{◌-◌, suc}
-use mathlib.Core.Path.{◌≡◌, refl, sym, ◌∙◌}
 use native.Mathlib.Omega.{arith}
-use borrow.Author.Rules.{rules}
-use borrow.Author.Tests.{not-true, not-false}
 use Rattle.type_nodes.specs.Laws.Siblings.{found_there, found_nothing, token_known, identifier_none, identifier_read, identifier_other}
-use borrow.Author.Rules.{rules}
 use Rattle.type_nodes.proofs.nodes.node_identifier.Goals as goal
 
 pub node_at-found-requires : goal.node_at-found-requires

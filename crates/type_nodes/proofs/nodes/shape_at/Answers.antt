@@ -1,11 +1,7 @@
 -- `shape_at` meets its contract. Assumes nothing.
-use Prim.Native.Nat.{◌-◌, suc}
-use mathlib.Core.Path.{◌≡◌, refl, sym, ◌∙◌}
+use mathlib.Core.Path.{sym, ◌∙◌}
 use native.Mathlib.Omega.{arith}
-use borrow.Author.Rules.{rules}
-use borrow.Author.Tests.{not-true, not-false}
 use Rattle.type_nodes.specs.Laws.Siblings.{shape_none, read_known, read_token, read_group, read_small}
-use borrow.Author.Rules.{rules}
 use Rattle.type_nodes.proofs.nodes.shape_at.Goals as goal
 
 pub returns-then-at-to : goal.returns-then-at-to

@@ -3,7 +3,6 @@ use mathlib.Core.Path.{◌∙◌}
 use borrow.Author.Tests.{eq-eqb, ne_eqb}
 use Rattle.type_nodes.specs.Ranges.{operator_ranges}
 use Rattle.type_nodes.specs.Laws.OperatorRanges.{ranges_decide}
-use borrow.Author.Rules.{rules}
 use Rattle.type_nodes.proofs.sets.is_binary_or_assignment_operator.Goals as goal
 
 pub returns-then-language-eq-FORTRAN : goal.returns-then-language-eq-FORTRAN

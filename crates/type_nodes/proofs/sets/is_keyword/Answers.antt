@@ -1,6 +1,5 @@
 -- `is_keyword` meets its contract. Assumes nothing.
 use Rattle.type_nodes.specs.Sets.{is_keyword}
-use borrow.Author.Rules.{rules}
 use Rattle.type_nodes.proofs.sets.is_keyword.Goals as goal
 
 pub returns : goal.returns

@@ -1,8 +1,6 @@
 -- `builtin_word` meets its contract. Assumes nothing.
-use borrow.Author.Rules.{rules}
 use Rattle.type_nodes.specs.Specifiers.{builtin_word}
 use Rattle.type_nodes.specs.Laws.SpecifierTables.{moved}
-use borrow.Author.Rules.{rules}
 use Rattle.type_nodes.proofs.specifiers.builtin_word.Goals as goal
 
 pub returns : goal.returns

@@ -1,7 +1,5 @@
 -- `builtin_words_are_valid` meets its contract. Assumes nothing.
-use borrow.Author.Rules.{rules}
 use borrow.Author.Tests.{eq-eqb, ne_eqb}
-use borrow.Author.Rules.{rules}
 use Rattle.type_nodes.proofs.specifiers.builtin_words_are_valid.Goals as goal
 
 pub returns-then-word-eq-BIT_INT : goal.returns-then-word-eq-BIT_INT

@@ -1,8 +1,6 @@
 -- `elaborated_word` meets its contract. Assumes nothing.
-use borrow.Author.Rules.{rules}
 use Rattle.type_nodes.specs.Specifiers.{elaborated_word}
 use Rattle.type_nodes.specs.Laws.SpecifierTables.{moved}
-use borrow.Author.Rules.{rules}
 use Rattle.type_nodes.proofs.specifiers.elaborated_word.Goals as goal
 
 pub returns : goal.returns

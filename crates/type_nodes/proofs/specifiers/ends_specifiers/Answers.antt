@@ -1,8 +1,6 @@
 -- `ends_specifiers` meets its contract: by the shape. Assumes nothing.
-use borrow.Author.Rules.{rules}
-use borrow.Author.Tests.{eq-eqb, ne_eqb}
+use borrow.Author.Tests.{ne_eqb}
 use Rattle.rows.specs.Notation.{◌is_one_of◌}
-use borrow.Author.Rules.{rules}
 use Rattle.type_nodes.proofs.specifiers.ends_specifiers.Goals as goal
 
 pub returns-then-shape-eq-IDENTIFIER : goal.returns-then-shape-eq-IDENTIFIER

@@ -1,8 +1,6 @@
 -- `name_word` meets its contract. Assumes nothing.
-use borrow.Author.Rules.{rules}
 use Rattle.type_nodes.specs.Specifiers.{name_word}
 use Rattle.type_nodes.specs.Laws.SpecifierTables.{moved}
-use borrow.Author.Rules.{rules}
 use Rattle.type_nodes.proofs.specifiers.name_word.Goals as goal
 
 pub returns : goal.returns

@@ -1,9 +1,7 @@
 -- `specifier_list` meets its contract. Assumes nothing.
 use mathlib.Core.Path.{refl}
-use borrow.Author.Rules.{rules}
 use Rattle.type_nodes.specs.Specifiers.{specifier_list}
 use Rattle.type_nodes.specs.Laws.SpecifierTables.{moved}
-use borrow.Author.Rules.{rules}
 use Rattle.type_nodes.proofs.specifiers.specifier_list.Goals as goal
 
 pub returns : goal.returns

@@ -1,8 +1,6 @@
 -- `specifier_node` meets its contract: an arm of the table at each way out. Assumes nothing.
-use borrow.Author.Rules.{rules}
 use borrow.Author.Tests.{ne_eqb}
 use Rattle.type_nodes.specs.Laws.SpecifierTables.{moved, at_identifier, at_scope, at_list, at_group}
-use borrow.Author.Rules.{rules}
 use Rattle.type_nodes.proofs.specifiers.specifier_node.Goals as goal
 
 pub specifier_word-requires : goal.specifier_word-requires

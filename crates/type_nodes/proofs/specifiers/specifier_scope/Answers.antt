@@ -1,8 +1,6 @@
 -- `specifier_scope` meets its contract. Assumes nothing.
-use borrow.Author.Rules.{rules}
 use Rattle.type_nodes.specs.Specifiers.{specifier_scope}
 use Rattle.type_nodes.specs.Laws.SpecifierTables.{moved}
-use borrow.Author.Rules.{rules}
 use Rattle.type_nodes.proofs.specifiers.specifier_scope.Goals as goal
 
 pub returns : goal.returns

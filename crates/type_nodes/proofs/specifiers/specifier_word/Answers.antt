@@ -1,8 +1,6 @@
 -- `specifier_word` meets its contract: an arm of the table at each way out. Assumes nothing.
 use mathlib.Core.Path.{sym, ◌∙◌}
-use borrow.Author.Rules.{rules}
 use Rattle.type_nodes.specs.Laws.SpecifierTables.{moved, builtin_counted, qualifier_counted, word_1, word_2, word_3, word_4, word_5}
-use borrow.Author.Rules.{rules}
 use Rattle.type_nodes.proofs.specifiers.specifier_word.Goals as goal
 
 pub returns-then-is_parenthesis_word-right : goal.returns-then-is_parenthesis_word-right

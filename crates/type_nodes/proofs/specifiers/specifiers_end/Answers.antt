@@ -1,8 +1,6 @@
 -- `specifiers_end` meets its contract. Assumes nothing.
 use mathlib.Core.Path.{sym}
-use borrow.Author.Rules.{rules}
 use Rattle.type_nodes.specs.Specifiers.{specifiers_end}
-use borrow.Author.Rules.{rules}
 use Rattle.type_nodes.proofs.specifiers.specifiers_end.Goals as goal
 
 pub returns-then-flags : goal.returns-then-flags

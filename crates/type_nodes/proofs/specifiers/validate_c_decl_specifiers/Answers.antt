@@ -1,8 +1,6 @@
 -- `validate_c_decl_specifiers` meets its contract: what is left of the nodes decides. Assumes nothing.
-use Prim.Native.Nat.{◌-◌}
 use native.Mathlib.Omega.{arith}
-use borrow.Author.Rules.{rules}
-use Rattle.type_nodes.specs.Laws.SpecifierLoop.{SpecifierLoop, specifiers_start, specifiers_ready, ready_to_end, count_fits, specifiers_further, specifiers_fits, specifiers_ready_next}
+use Rattle.type_nodes.specs.Laws.SpecifierLoop.{specifiers_start, specifiers_ready, ready_to_end, count_fits, specifiers_further, specifiers_fits, specifiers_ready_next}
 use Rattle.type_nodes.specs.Laws.SpecifierLoop.{specifiers_ended, not_ended, specifiers_more, specifiers_name, specifiers_scope, specifiers_stop, specifiers_on, specifiers_count, counted_known}
 use Rattle.type_nodes.proofs.specifiers.validate_c_decl_specifiers.Goals as goal
 

@@ -1,8 +1,6 @@
 -- `element_end` meets its contract. Assumes nothing.
 use Prim.Native.Nat.{◌-◌}
-use native.Mathlib.Omega.{arith}
-use borrow.Author.Rules.{rules}
-use Rattle.type_nodes.specs.Laws.Elements.{ElementLoop, element_start, element_formed, element_comma, element_further, element_fits, element_next, element_last}
+use Rattle.type_nodes.specs.Laws.Elements.{ElementLoop}
 use Rattle.type_nodes.proofs.split_on_commas.element_end.Given as goal
 
 abbrev pub invariant-loop-at : goal.invariant-loop-at

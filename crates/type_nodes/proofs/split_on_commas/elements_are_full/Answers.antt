@@ -1,10 +1,6 @@
 -- `elements_are_full` meets its contract. The loop's invariant: what is left of the parts decides. Assumes nothing.
-use Prim.Native.Nat.{◌-◌, suc}
-use mathlib.Core.Path.{◌≡◌, refl, sym, ◌∙◌}
 use native.Mathlib.Omega.{arith}
-use borrow.Author.Rules.{rules}
-use borrow.Author.Tests.{not-true, not-false}
-use Rattle.type_nodes.specs.Laws.Commas.{CommaLoop, comma_start, comma_formed, comma_bad, comma_further, comma_fits, comma_next, comma_other, comma_end}
+use Rattle.type_nodes.specs.Laws.Commas.{comma_start, comma_formed, comma_bad, comma_further, comma_fits, comma_next, comma_other, comma_end}
 use Rattle.type_nodes.proofs.split_on_commas.elements_are_full.Goals as goal
 
 pub loop-at-init : goal.loop-at-init
