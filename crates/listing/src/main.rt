@@ -38,7 +38,8 @@ fn list(input: &[u8], size: usize, text: &mut [u8]) -> usize
     ensures listed { Appended text.old 0 (file_listing (take size input.now)) result text.new }
 {
     let mut tree = [0u32; TREE_LENGTH];
-    if FILE_LIMIT < size {
+    let is_too_long = FILE_LIMIT < size;
+    if is_too_long {
         let too_long = Answer::Refused {
             error: TypeNameError::FileTooLong,
             steps: 0,
