@@ -1,6 +1,6 @@
 -- Computed examples of this crate's definitions, so that a wrong edit of one is refused here.
 -- Assumes nothing.
-use Rattle.std.specs.Prelude.{ℕ, ◌≡◌, refl, List, [], ◌∷◌}
+use Rattle.std.specs.Prelude.{◌≡◌, refl, [], ◌∷◌}
 use Rattle.rows.specs.declared.answer.Answer.TheVariants.{Accepted, Refused}
 use Rattle.rows.specs.declared.answer.TypeNameError.TheVariants.{InvalidRecord, UnclosedAngle}
 use Rattle.type_name.specs.AnswerNumbers.{answer_numbers}

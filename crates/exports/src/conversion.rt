@@ -10,8 +10,7 @@ use convert::entry::{narrow, widen};
 
 // Brings a file of document 01's format over as `widen` does: returns 0 if the new file stands in front of `output`, else the refusal's number; of the
 // answer's four numbers as many are written as `numbers` has room for.
-#[unsafe(no_mangle)]
-pub extern "C" fn type_name_widen(file: &[u8], output: &mut [u8], numbers: &mut [u32]) -> u32
+pub fn type_name_widen(file: &[u8], output: &mut [u8], numbers: &mut [u32]) -> u32
     ensures returned { result ≡ convert_code (convert_answer (widen_outcome file.now (length output.old))) }
     ensures numbered { numbers.new ≡ put_front (convert_numbers (convert_answer (widen_outcome file.now (length output.old)))) numbers.old }
     ensures written { output.new ≡ output_in output.old (widen_outcome file.now (length output.old)) }
@@ -21,8 +20,7 @@ pub extern "C" fn type_name_widen(file: &[u8], output: &mut [u8], numbers: &mut 
 }
 
 // Its inverse, as `narrow`.
-#[unsafe(no_mangle)]
-pub extern "C" fn type_name_narrow(file: &[u8], output: &mut [u8], numbers: &mut [u32]) -> u32
+pub fn type_name_narrow(file: &[u8], output: &mut [u8], numbers: &mut [u32]) -> u32
     ensures returned { result ≡ convert_code (convert_answer (narrow_outcome file.now (length output.old))) }
     ensures numbered { numbers.new ≡ put_front (convert_numbers (convert_answer (narrow_outcome file.now (length output.old)))) numbers.old }
     ensures written { output.new ≡ output_in output.old (narrow_outcome file.now (length output.old)) }

@@ -1,4 +1,5 @@
-// What C and Rust link: every exported function, each a call of an entry below. include/type_name.h says what no contract covers.
+// The functions that C and Rust link, each a call of an entry below: crate `exports_c` exports them under the same names. include/type_name.h says what no
+// contract covers.
 
 #![tactic(auto)]
 

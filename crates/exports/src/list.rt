@@ -11,8 +11,7 @@ use type_list::entry::parse_type_list;
 
 // Reads several type names with commas between them as `parse_type_list` does: returns 0 if all are accepted, else the refusal's number; of the
 // answer's five numbers as many are written as `numbers` has room for.
-#[unsafe(no_mangle)]
-pub extern "C" fn type_name_read_list(file: &[u8], tree: &mut [u32], numbers: &mut [u32]) -> u32
+pub fn type_name_read_list(file: &[u8], tree: &mut [u32], numbers: &mut [u32]) -> u32
     ensures returned { result ≡ list_code (list_answer file.now (length tree.old)) }
     ensures written { numbers.new ≡ put_front (list_numbers (list_answer file.now (length tree.old))) numbers.old }
     ensures promised { ListPromised file.now tree.old (list_answer file.now (length tree.old)) tree.new }

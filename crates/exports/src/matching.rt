@@ -10,13 +10,7 @@ use crate::numbers::put_match;
 use rule_answers::matching::match_type_name;
 
 // Reads a type name and says which rule of a table wins, as `match_type_name` does: returns 0 if one does, else the refusal's number.
-#[unsafe(no_mangle)]
-pub extern "C" fn type_name_match(
-    file: &[u8],
-    rules: &[u8],
-    tree: &mut [u32],
-    numbers: &mut [u32],
-) -> u32
+pub fn type_name_match(file: &[u8], rules: &[u8], tree: &mut [u32], numbers: &mut [u32]) -> u32
     ensures returned { result ≡ match_code (match_answer file.now rules.now (length tree.old)) }
     ensures written { numbers.new ≡ put_front (match_numbers (match_answer file.now rules.now (length tree.old))) numbers.old }
     ensures promised { MatchPromised file.now rules.now tree.old (match_answer file.now rules.now (length tree.old)) tree.new }

@@ -7,8 +7,7 @@ use rule_answers::overlap::find_overlap;
 
 // Finds the first pair of rules that overlap and come after the pair handed in, as `find_overlap` does: returns 0, or the refusal's
 // number; of the answer's four numbers as many are written as `numbers` has room for.
-#[unsafe(no_mangle)]
-pub extern "C" fn type_name_overlap(
+pub fn type_name_overlap(
     rules: &[u8],
     earlier: u32,
     later: u32,

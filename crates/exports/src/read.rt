@@ -1,4 +1,4 @@
-// `type_name_read`. A slice is a pointer and a length.
+// `type_name_read`.
 
 ghost use Rattle.std.specs.Prelude.{◌≡◌, length};
 ghost use Rattle.type_name.specs.Answers.{answer};
@@ -11,8 +11,7 @@ use type_name::entry::parse_type_name;
 
 // Reads a type name as `parse_type_name` does: returns 0 if it is accepted, else the refusal's number; of the answer's four numbers as many are
 // written as `numbers` has room for.
-#[unsafe(no_mangle)]
-pub extern "C" fn type_name_read(file: &[u8], tree: &mut [u32], numbers: &mut [u32]) -> u32
+pub fn type_name_read(file: &[u8], tree: &mut [u32], numbers: &mut [u32]) -> u32
     ensures returned { result ≡ answer_code (answer file.now (length tree.old)) }
     ensures written { numbers.new ≡ put_front (answer_numbers (answer file.now (length tree.old))) numbers.old }
     ensures promised { Promised file.now tree.old (answer file.now (length tree.old)) tree.new }

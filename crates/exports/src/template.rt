@@ -5,8 +5,7 @@ ghost use Rattle.outer.specs.OuterPromises.{OuterPromised};
 use outer::entry::outer_arguments;
 
 // How many arguments the list has that the numbers of a tree begin with, behind a word, as `outer_arguments` counts them: 0 if they begin otherwise.
-#[unsafe(no_mangle)]
-pub extern "C" fn type_name_outer(tree: &[u32]) -> u32
+pub fn type_name_outer(tree: &[u32]) -> u32
     ensures { OuterPromised tree.now result }
 {
     outer_arguments(tree)

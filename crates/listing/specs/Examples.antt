@@ -7,7 +7,7 @@ use Rattle.rows.specs.Records.{head, head_formed, little_endian}
 use Rattle.rows.specs.declared.answer.TypeNameError.TheVariants.{NoTypeName}
 use Rattle.rows.specs.declared.answer.Answer.TheVariants.{Accepted, Refused}
 use Rattle.text.specs.Text.{decimal, ended, last_digit, last_digits}
-use Rattle.reader.specs.Nodes.{number, kind_of, token_of, extent_of}
+use Rattle.reader.specs.Nodes.{number}
 use Rattle.type_name.specs.Answers.{answer}
 use Rattle.listing.specs.FileListing.{file_listing}
 use Rattle.listing.specs.Listing.{listing, accepted_line, refused_line, listed, node_lines, node_line, level, levels_of, stands_below, makes_level, letter}

@@ -6,16 +6,18 @@ mod level;
 mod lines;
 
 ghost use Rattle.std.specs.Prelude.{◌≡◌, ◌≤◌, length, take};
-ghost use Rattle.io.specs.Counts.{IsPrefixLen};
+ghost use Rattle.std.specs.Counts.{IsPrefixLen};
 ghost use Rattle.text.specs.Text.{Appended};
 ghost use Rattle.listing.specs.Listing.{listing_length};
 ghost use Rattle.listing.specs.FileListing.{file_listing, input_length, tree_length};
 
 use crate::lines::{NODE_LINE_LENGTH, REFUSED_LINE_LENGTH, put_listing};
-use libc::{STDIN_FILENO, STDOUT_FILENO};
 use reader::nodes::{NODE_WIDTH, NUMBERS_PER_TOKEN};
 use rows::answer::{Answer, TypeNameError};
 use rows::row::MOST_TOKENS;
+use std::io;
+use std::io::Write;
+use stream::read_full;
 use type_name::entry::parse_type_name;
 
 // The program's own, below the format's.
@@ -36,7 +38,8 @@ fn list(input: &[u8], size: usize, text: &mut [u8]) -> usize
     ensures listed { Appended text.old 0 (file_listing (take size input.now)) result text.new }
 {
     let mut tree = [0u32; TREE_LENGTH];
-    if FILE_LIMIT < size {
+    let is_too_long = FILE_LIMIT < size;
+    if is_too_long {
         let too_long = Answer::Refused {
             error: TypeNameError::FileTooLong,
             steps: 0,
@@ -47,10 +50,10 @@ fn list(input: &[u8], size: usize, text: &mut [u8]) -> usize
     put_listing(text, answer, &tree)
 }
 
-fn main() {
+fn main(rt: HostRuntime) -> io::Result<()> {
     let mut input = [0u8; INPUT_LENGTH];
-    let size = io::read_full(STDIN_FILENO, &mut input);
+    let size = read_full(&mut rt.stdin(), &mut input)?;
     let mut text = [0u8; TEXT_LENGTH];
     let end = list(&input, size, &mut text);
-    io::write_all(STDOUT_FILENO, &text[..end]);
+    rt.stdout().write_all(&text[..end])
 }

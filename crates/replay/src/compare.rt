@@ -23,7 +23,7 @@ fn first_difference(expected: &[u32], given: &[u32]) -> usize
 }
 
 // Whether all numbers agree; if not, prints the first that does not.
-pub fn agree(case: usize, part: &[u8], expected: &[u32], given: &[u32]) -> bool
+pub fn agree(rt: &HostRuntime, case: usize, part: &[u8], expected: &[u32], given: &[u32]) -> bool
     requires { (length expected.now ≡ length given.now) × (length part.now ≤ part_length) }
     ensures { result ≡ agree_on expected.now given.now }
 {
@@ -31,6 +31,6 @@ pub fn agree(case: usize, part: &[u8], expected: &[u32], given: &[u32]) -> bool
     if at == expected.len() {
         return true;
     }
-    print_difference(case, part, at, expected[at], given[at]);
+    print_difference(rt, case, part, at, expected[at], given[at]);
     false
 }

@@ -14,7 +14,8 @@ use crate::compare::agree;
 use crate::numbers::{NUMBER_BYTES, put_numbers};
 use crate::report::{print_cut_off, print_total};
 use exports::read::type_name_read;
-use libc::STDIN_FILENO;
+use std::io;
+use stream::read_full;
 
 // What stands at the front of a case, four bytes each: the lengths of the file and of the buffer, the number that the
 // buffer holds before, the answer, how many numbers of the final buffer follow the file, and the number behind them.
@@ -61,12 +62,15 @@ enum Outcome {
     CutOff,
 }
 
-fn read_whole(bytes: &mut [u8]) -> bool {
-    io::read_full(STDIN_FILENO, bytes) == bytes.len()
+// Whether the input has as many bytes as there is room for.
+fn read_whole(rt: &HostRuntime, bytes: &mut [u8]) -> io::Result<bool> {
+    let size = read_full(&mut rt.stdin(), bytes)?;
+    Ok(size == bytes.len())
 }
 
 // Whether the entry leaves the expected numbers in a buffer that held other ones before. `tree` and `expected` are lent.
 fn replay(
+    rt: &HostRuntime,
     case: usize,
     head: &[u32],
     file: &[u8],
@@ -82,6 +86,7 @@ fn replay(
     let mut answer = [0u32; ANSWER_NUMBERS];
     let returned = [type_name_read(file, tree, &mut answer)];
     if !agree(
+        rt,
         case,
         b"returned",
         &head[AT_ANSWER..AT_ANSWER + 1],
@@ -89,21 +94,22 @@ fn replay(
     ) {
         return false;
     }
-    if !agree(case, b"answer", &head[AT_ANSWER..AT_STORED], &answer) {
+    if !agree(rt, case, b"answer", &head[AT_ANSWER..AT_STORED], &answer) {
         return false;
     }
-    agree(case, b"buffer", expected, tree)
+    agree(rt, case, b"buffer", expected, tree)
 }
 
 // Takes the rest of a case from standard input and replays it, in the space that is lent.
 fn replay_rest(
+    rt: &HostRuntime,
     case: usize,
     head: &[u32],
     file: &mut [u8],
     stored: &mut [u8],
     tree: &mut [u32],
     expected: &mut [u32],
-) -> Outcome
+) -> io::Result<Outcome>
     requires head_len { (length head.now ≡ head_numbers) × (length file.old ≡ file_length) }
     requires stored_len { (length stored.old ≡ number_bytes * length expected.old) × (length tree.old ≡ length expected.old) }
 {
@@ -111,22 +117,23 @@ fn replay_rest(
     let buffer_length = head[AT_BUFFER] as usize;
     let stored_numbers = head[AT_STORED] as usize;
     if file.len() < file_length {
-        return Outcome::CutOff;
+        return Ok(Outcome::CutOff);
     }
     if expected.len() < buffer_length {
-        return Outcome::CutOff;
+        return Ok(Outcome::CutOff);
     }
     if expected.len() < stored_numbers {
-        return Outcome::CutOff;
+        return Ok(Outcome::CutOff);
     }
     let stored_length = NUMBER_BYTES * stored_numbers;
-    if !read_whole(&mut file[..file_length]) {
-        return Outcome::CutOff;
+    if !read_whole(rt, &mut file[..file_length])? {
+        return Ok(Outcome::CutOff);
     }
-    if !read_whole(&mut stored[..stored_length]) {
-        return Outcome::CutOff;
+    if !read_whole(rt, &mut stored[..stored_length])? {
+        return Ok(Outcome::CutOff);
     }
     if replay(
+        rt,
         case,
         head,
         &file[..file_length],
@@ -134,19 +141,19 @@ fn replay_rest(
         &mut tree[..buffer_length],
         &mut expected[..buffer_length],
     ) {
-        return Outcome::Same;
+        return Ok(Outcome::Same);
     }
-    Outcome::Differs
+    Ok(Outcome::Differs)
 }
 
-fn replay_next(case: usize) -> Outcome {
+fn replay_next(rt: &HostRuntime, case: usize) -> io::Result<Outcome> {
     let mut bytes = [0u8; HEAD_LENGTH];
-    let got = io::read_full(STDIN_FILENO, &mut bytes);
+    let got = read_full(&mut rt.stdin(), &mut bytes)?;
     if got == 0 {
-        return Outcome::End;
+        return Ok(Outcome::End);
     }
     if got < HEAD_LENGTH {
-        return Outcome::CutOff;
+        return Ok(Outcome::CutOff);
     }
     let mut head = [0u32; HEAD_NUMBERS];
     put_numbers(&bytes, HEAD_NUMBERS, 0, &mut head);
@@ -155,6 +162,7 @@ fn replay_next(case: usize) -> Outcome {
     let mut tree = [0u32; BUFFER_LENGTH];
     let mut expected = [0u32; BUFFER_LENGTH];
     replay_rest(
+        rt,
         case,
         &head,
         &mut file,
@@ -164,20 +172,20 @@ fn replay_next(case: usize) -> Outcome {
     )
 }
 
-fn main() {
+fn main(rt: HostRuntime) -> io::Result<()> {
     let mut replayed: usize = 0;
     let mut differing: usize = 0;
     while replayed < MOST_CASES {
-        match replay_next(replayed) {
+        match replay_next(&rt, replayed)? {
             Outcome::Same => {}
             Outcome::Differs => differing += 1,
             Outcome::End => break,
             Outcome::CutOff => {
-                print_cut_off();
+                print_cut_off(&rt)?;
                 break;
             }
         }
         replayed += 1;
     }
-    print_total(replayed, differing);
+    print_total(&rt, replayed, differing)
 }

@@ -1,11 +1,12 @@
-// What `replay` prints. No contract can speak of what is written to a file: a `print_` function returns nothing and says nothing, and the text that it
-// hands to `io::write_all` is said by the `put_` function above it.
+// What `replay` prints. No contract can speak of what is written to standard output: a `print_` function says nothing, and the text that it writes is said
+// by the `put_` function above it.
 
 ghost use Rattle.std.specs.Prelude.{◌+◌, ◌≤◌, length};
 ghost use Rattle.text.specs.Text.{Appended, most_digits};
 ghost use Rattle.replay.specs.Report.{difference, labelled, line_length, part_length, place_length, place_text, total, values_length, values_text};
 
-use libc::STDOUT_FILENO;
+use std::io;
+use std::io::Write;
 use text::{MOST_DIGITS, put_bytes, put_decimal};
 
 // The longest name of a part, `returned`.
@@ -69,12 +70,20 @@ fn put_difference(
     put_values(text, at, expected, given)
 }
 
-pub fn print_difference(case: usize, part: &[u8], place: usize, expected: u32, given: u32)
+// A line that cannot be written is left out, and the case counts all the same.
+pub fn print_difference(
+    rt: &HostRuntime,
+    case: usize,
+    part: &[u8],
+    place: usize,
+    expected: u32,
+    given: u32,
+)
     requires { length part.now ≤ part_length }
 {
     let mut text = [0u8; LINE_LENGTH];
     let end = put_difference(&mut text, case, part, place, expected, given);
-    io::write_all(STDOUT_FILENO, &text[..end]);
+    let _ = rt.stdout().write_all(&text[..end]);
 }
 
 fn put_total(text: &mut [u8], replayed: usize, differing: usize) -> usize
@@ -88,12 +97,12 @@ fn put_total(text: &mut [u8], replayed: usize, differing: usize) -> usize
     put_bytes(text, after_differing, b" differ\n")
 }
 
-pub fn print_total(replayed: usize, differing: usize) {
+pub fn print_total(rt: &HostRuntime, replayed: usize, differing: usize) -> io::Result<()> {
     let mut text = [0u8; LINE_LENGTH];
     let end = put_total(&mut text, replayed, differing);
-    io::write_all(STDOUT_FILENO, &text[..end]);
+    rt.stdout().write_all(&text[..end])
 }
 
-pub fn print_cut_off() {
-    io::write_all(STDOUT_FILENO, b"the list is cut off\n");
+pub fn print_cut_off(rt: &HostRuntime) -> io::Result<()> {
+    rt.stdout().write_all(b"the list is cut off\n")
 }
