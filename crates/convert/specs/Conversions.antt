@@ -1,7 +1,6 @@
 -- The two conversions: document 02, C-14 and C-16.
 -- Assumes nothing.
-use Rattle.std.specs.Prelude.{ℕ, ◌^◌, Bool, false, ◌||◌, List, [], ◌∷◌, ◌++◌, length, drop, leb, ltb}
-use Rattle.rows.specs.Notation.{if◌then◌else◌}
+use Rattle.std.specs.Prelude.{ℕ, ◌^◌, Bool, false, ◌||◌, List, [], ◌∷◌, ◌++◌, length, drop, leb, ltb, if◌then◌else◌}
 use Rattle.rows.specs.Format.{format, old_format}
 use Rattle.rows.specs.declared.answer.TypeNameError.TheVariants.{FileTooLong, ShortBuffer, OffsetOver32Bits}
 use Rattle.type_name.specs.FileRow.{Outcome, untouched, passes, on_pass}

@@ -1,7 +1,6 @@
 -- By which number a file's standard is written in the other format: document 02, C-16.
 -- Assumes nothing.
-use Rattle.std.specs.Prelude.{ℕ, eqb}
-use Rattle.rows.specs.Notation.{if◌then◌else◌}
+use Rattle.std.specs.Prelude.{ℕ, eqb, if◌then◌else◌}
 use Rattle.rows.specs.Format.{format, standard_254, standard_255, meant}
 use Rattle.rows.specs.declared.head.Meaning.{Meaning}
 use Rattle.rows.specs.declared.head.Meaning.TheVariants.{Means, Unknown}

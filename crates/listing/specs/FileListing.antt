@@ -1,7 +1,6 @@
 -- What `listing` prints for a file: document 01's answer to it and the tree buffer that it leaves, as text.
 -- Assumes nothing.
-use Rattle.std.specs.Prelude.{ℕ, ◌+◌, ◌*◌, List, length, replicate, ltb}
-use Rattle.rows.specs.Notation.{if◌then◌else◌}
+use Rattle.std.specs.Prelude.{ℕ, ◌+◌, ◌*◌, List, length, replicate, ltb, if◌then◌else◌}
 use Rattle.rows.specs.Format.{most_tokens}
 use Rattle.rows.specs.declared.answer.Answer.TheVariants.{Refused}
 use Rattle.rows.specs.declared.answer.TypeNameError.TheVariants.{FileTooLong}

@@ -1,7 +1,7 @@
 -- What the program `listing` prints: document 01, end of "Rows worked out".
 -- Assumes nothing.
-use Rattle.std.specs.Prelude.{ℕ, zero, suc, ◌+◌, ◌*◌, ◌/◌, min, Bool, ◌&&◌, List, [], ◌∷◌, ◌++◌, length, get_or, ltb}
-use Rattle.rows.specs.Notation.{if◌then◌else◌, ◌is_one_of◌}
+use Rattle.std.specs.Prelude.{ℕ, zero, suc, ◌+◌, ◌*◌, ◌/◌, min, Bool, ◌&&◌, List, [], ◌∷◌, ◌++◌, length, get_or, ltb, if◌then◌else◌}
+use Rattle.rows.specs.Notation.{◌is_one_of◌}
 use Rattle.rows.specs.Words.{bytes}
 use Rattle.rows.specs.Refusals.{refusal_of}
 use Rattle.rows.specs.declared.answer.Refusal.{Refusal}

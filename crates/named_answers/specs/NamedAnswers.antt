@@ -1,7 +1,6 @@
 -- The answer to a file whose template names are given, and the final tree buffer: document 02, C-17.
 -- Assumes nothing.
-use Rattle.std.specs.Prelude.{ℕ, Bool, List, length, eqb}
-use Rattle.rows.specs.Notation.{if◌then◌else◌}
+use Rattle.std.specs.Prelude.{ℕ, Bool, List, length, eqb, if◌then◌else◌}
 use Rattle.rows.specs.Languages.{Cpp}
 use Rattle.rows.specs.Format.{format}
 use Rattle.rows.specs.Records.{kinds_of, words_of}

@@ -1,7 +1,7 @@
 -- A row as its tree writes it: document 02, C-17, "An accepted row here is written out in its own order, a `>>` that closes two lists standing for two `>`."
 -- Assumes nothing.
-use Rattle.std.specs.Prelude.{ℕ, suc, Bool, not, ◌&&◌, List, [], ◌∷◌, eqb}
-use Rattle.rows.specs.Notation.{if◌then◌else◌, ◌is_one_of◌}
+use Rattle.std.specs.Prelude.{ℕ, suc, Bool, not, ◌&&◌, List, [], ◌∷◌, eqb, if◌then◌else◌}
+use Rattle.rows.specs.Notation.{◌is_one_of◌}
 use Rattle.rows.specs.Kinds.{Greater, ShiftRight}
 use Rattle.reader.specs.Nodes.{t_node, Nodes}
 use Rattle.reader.specs.Standing.{tokens_of}

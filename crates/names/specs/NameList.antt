@@ -1,7 +1,6 @@
 -- The name list: document 02, C-17. Its file has no head: token records from the first byte to the last.
 -- Assumes nothing.
-use Rattle.std.specs.Prelude.{ℕ, Bool, true, false, not, ◌&&◌, ◌||◌, List, [], ◌∷◌, map, length, leb, eqb}
-use Rattle.rows.specs.Notation.{if◌then◌else◌}
+use Rattle.std.specs.Prelude.{ℕ, Bool, true, false, not, ◌&&◌, ◌||◌, List, [], ◌∷◌, map, length, leb, eqb, if◌then◌else◌}
 use Rattle.rows.specs.Kinds.{Identifier}
 use Rattle.rows.specs.Words.{same_exactly}
 use Rattle.rows.specs.Format.{format}

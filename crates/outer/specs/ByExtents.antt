@@ -1,9 +1,8 @@
 -- The same by extents, of any numbers: document 02, C-15. A node that is cut off is past the buffer; token numbers are not looked at.
 -- Assumes nothing.
 use Prim.Native.Nat.{ℕ, zero, suc, ◌+◌, ◌*◌, ◌-◌}
-use Rattle.std.specs.Prelude.{Bool, ◌&&◌, List, length}
+use Rattle.std.specs.Prelude.{Bool, ◌&&◌, List, length, if◌then◌else◌}
 use Rattle.std.proofs.Math.Dec.{eqb, leb}
-use Rattle.rows.specs.Notation.{if◌then◌else◌}
 use Rattle.reader.specs.Nodes.{t_node, l_node, a_node, number, node_width, kind_of, extent_of}
 
 module _ (numbers : List ℕ) where

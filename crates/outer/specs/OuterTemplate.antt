@@ -1,11 +1,10 @@
 -- The template that a tree begins with, counted from the full tree: document 02, C-15.
 -- Assumes nothing.
-use Rattle.std.specs.Prelude.{ℕ, suc, ◌+◌, Bool, ◌&&◌}
+use Rattle.std.specs.Prelude.{ℕ, suc, ◌+◌, Bool, ◌&&◌, if◌then◌else◌}
 use Rattle.std.proofs.Math.Bool.{false}
 use mathlib.Core.List.{List, [], ◌∷◌}
 use Rattle.std.proofs.Math.ListN.{length}
 use Rattle.std.proofs.Math.Dec.{eqb}
-use Rattle.rows.specs.Notation.{if◌then◌else◌}
 use Rattle.rows.specs.Kinds.{Identifier}
 use Rattle.reader.specs.Nodes.{NodeKind, t_node, l_node, number, Nodes, none, node, count}
 use Rattle.reader.specs.Reading.{kind_at}

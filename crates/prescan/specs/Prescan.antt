@@ -1,7 +1,7 @@
 -- The prescan: document 01, "Bracket pairs", and the places "Prescan" and "Row end" of its table: refusals 10 to 18.
 -- Assumes nothing.
-use Rattle.std.specs.Prelude.{ℕ, suc, ◌-◌, Bool, false, not, ◌&&◌, ◌||◌, List, [], ◌∷◌, length, get_or, leb, eqb}
-use Rattle.rows.specs.Notation.{if◌then◌else◌, ◌is_one_of◌}
+use Rattle.std.specs.Prelude.{ℕ, suc, ◌-◌, Bool, false, not, ◌&&◌, ◌||◌, List, [], ◌∷◌, length, get_or, leb, eqb, if◌then◌else◌}
+use Rattle.rows.specs.Notation.{◌is_one_of◌}
 use Rattle.rows.specs.Languages.{C, Cpp, Fortran}
 use Rattle.rows.specs.Kinds.{Identifier, Integer, RightParen, RightBracket, Comma, Scope, Star, Ampersand, LogicalAnd, Less, Greater, ShiftRight, End, NoToken}
 use Rattle.rows.specs.Refusals.{no_token}

@@ -1,8 +1,7 @@
 -- What a row uses and a standard lacks: document 01, refusal 40; `validate_profile_features` restated over rows.
 -- Assumes nothing.
-use Rattle.std.specs.Prelude.{ℕ, zero, suc, ◌+◌, Bool, true, false, ◌&&◌, ◌||◌, List, [], ◌∷◌, length, get_or, leb, ltb}
+use Rattle.std.specs.Prelude.{ℕ, zero, suc, ◌+◌, Bool, true, false, ◌&&◌, ◌||◌, List, [], ◌∷◌, length, get_or, leb, ltb, if◌then◌else◌}
 use Rattle.std.proofs.Math.Dec.{eqb}
-use Rattle.rows.specs.Notation.{if◌then◌else◌}
 use Rattle.rows.specs.Languages.{C, Cpp, Fortran, C99, C11, C23, Cpp11, Fortran90, Fortran2003, Fortran2018}
 use Rattle.rows.specs.Kinds.{Identifier, LeftParen, RightParen, Dot, Star, LogicalAnd, Equal, NoToken}
 use Rattle.rows.specs.Words.{no_word, exactly, ignoring_case, long, _Atomic, _BitInt, typeof, typeof_unqual, decltype, type, class}

@@ -13,11 +13,10 @@
 --   top 4       end  ends      the list was read: L 1 above A 2, one step
 -- So `reading` is got (T 0, L 1 above A 2 above T 2) at 4, no half, 3 steps.
 use Prim.Native.Nat.{ℕ, zero, suc, ◌+◌, ◌*◌}
-use Rattle.std.specs.Prelude.{Bool, ◌&&◌, ◌||◌, List, get_or, leb, ltb}
+use Rattle.std.specs.Prelude.{Bool, ◌&&◌, ◌||◌, List, get_or, leb, ltb, if◌then◌else◌}
 use Rattle.std.proofs.Math.Bool.{true, false}
 use Rattle.std.proofs.Math.ListN.{length}
 use Rattle.std.proofs.Math.Dec.{eqb}
-use Rattle.rows.specs.Notation.{if◌then◌else◌}
 use Rattle.rows.specs.Kinds.{Identifier, LeftParen, RightParen, LeftBracket, RightBracket, Comma, Less, Greater, ShiftRight, NoToken}
 use Rattle.rows.specs.declared.answer.TypeNameError.{TypeNameError}
 use Rattle.rows.specs.declared.answer.TypeNameError.TheVariants.{NestingLimitExceeded, UnterminatedGroup, MismatchedClosingDelimiter}

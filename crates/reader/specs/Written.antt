@@ -1,7 +1,6 @@
 -- A tree **written out**: document 01, "Node record": "A tree is written out with every G, B and L between its brackets or angles, ..".
 -- Assumes nothing.
-use Rattle.std.specs.Prelude.{ℕ, suc, List, [], ◌∷◌, ◌++◌, get_or, eqb}
-use Rattle.rows.specs.Notation.{if◌then◌else◌}
+use Rattle.std.specs.Prelude.{ℕ, suc, List, [], ◌∷◌, ◌++◌, get_or, eqb, if◌then◌else◌}
 use Rattle.rows.specs.Kinds.{LeftParen, RightParen, LeftBracket, RightBracket, Comma, Less, Greater, ShiftRight, NoToken}
 use Rattle.reader.specs.Nodes.{t_node, g_node, b_node, l_node, a_node, Nodes, none, node}
 

@@ -1,7 +1,6 @@
 -- The numbers of a replay list, and what it is that two lists of numbers differ.
 -- Assumes nothing.
-use Rattle.std.specs.Prelude.{ℕ, zero, suc, ◌+◌, ◌*◌, Bool, ◌&&◌, List, [], ◌∷◌, ◌++◌, length, get_or, take, drop, replicate, eqb, ltb}
-use Rattle.rows.specs.Notation.{if◌then◌else◌}
+use Rattle.std.specs.Prelude.{ℕ, zero, suc, ◌+◌, ◌*◌, Bool, ◌&&◌, List, [], ◌∷◌, ◌++◌, length, get_or, take, drop, replicate, eqb, ltb, if◌then◌else◌}
 use Rattle.rows.specs.Format.{format}
 use Rattle.rows.specs.Records.{little_endian}
 use Rattle.type_name.specs.Answers.{answer, final_buffer}

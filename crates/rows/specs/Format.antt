@@ -1,7 +1,6 @@
 -- The numbers of the record file: document 01, "Head record", "Token record" and "Answer record"; document 02, C-14 and C-16.
 -- Assumes nothing.
-use Rattle.std.specs.Prelude.{ℕ, ◌+◌, ◌*◌, ◌≤◌, Bool, not, eqb, ltb}
-use Rattle.rows.specs.Notation.{if◌then◌else◌}
+use Rattle.std.specs.Prelude.{ℕ, ◌+◌, ◌*◌, ◌≤◌, Bool, not, eqb, ltb, if◌then◌else◌}
 use Rattle.rows.specs.declared.format.SpanWidth.{SpanWidth}
 use Rattle.rows.specs.declared.format.SpanWidth.TheVariants.{Four, Eight}
 use Rattle.rows.specs.declared.format.StandIn.{StandIn}

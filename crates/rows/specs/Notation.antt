@@ -1,12 +1,6 @@
 -- Notation that the definitions share.
 -- Assumes nothing.
-use Rattle.std.specs.Prelude.{ℕ, Bool, true, false, ◌||◌, List, [], ◌∷◌, eqb}
-
-infix 10 if◌then◌else◌
--- The Rust's `if .. else ..` as a value.
-abbrev pub if◌then◌else◌ {ℓ} : {A : Type ℓ} → Bool → A → A → A
-if◌then◌else◌ true a b = a
-if◌then◌else◌ false a b = b
+use Rattle.std.specs.Prelude.{ℕ, Bool, false, ◌||◌, List, [], ◌∷◌, eqb}
 
 infix 40 ◌is_one_of◌
 -- The number stands in the list: the Rust's `matches!` with several cases.

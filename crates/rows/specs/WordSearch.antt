@@ -1,7 +1,6 @@
 -- The tables by which code finds a known word, made from the definitions' table of known words: what the contracts of the search speak of.
 -- Assumes nothing.
-use Rattle.std.specs.Prelude.{ℕ, zero, suc, ◌+◌, ◌≡◌, List, [], ◌∷◌, ◌++◌, map, length, get_or, eqb}
-use Rattle.rows.specs.Notation.{if◌then◌else◌}
+use Rattle.std.specs.Prelude.{ℕ, zero, suc, ◌+◌, ◌≡◌, List, [], ◌∷◌, ◌++◌, map, length, get_or, eqb, if◌then◌else◌}
 use Rattle.rows.specs.Words.{Known, known, bytes, same_exactly, same_ignoring_case, lower}
 use Rattle.rows.specs.declared.words.Comparison.{Comparison}
 use Rattle.rows.specs.declared.words.Comparison.TheVariants.{Exact, OtherCase, Different}

@@ -1,10 +1,9 @@
 -- The words that the reader knows, and the number that stands for a word in the layers above: every word that type_name.rs compares with.
 -- A word is known exactly (byte for byte) or with case ignored, as the original's `==` and `eq_ignore_ascii_case` have it.
 -- Assumes nothing.
-use Rattle.std.specs.Prelude.{ℕ, ◌+◌, ◌-◌, Bool, true, false, ◌&&◌, List, [], ◌∷◌, leb, ltb, eqb}
+use Rattle.std.specs.Prelude.{ℕ, ◌+◌, ◌-◌, Bool, true, false, ◌&&◌, List, [], ◌∷◌, leb, ltb, eqb, if◌then◌else◌}
 use Prim.Native.Char.{code}
 use Prim.Native.String.{String}
-use Rattle.rows.specs.Notation.{if◌then◌else◌}
 
 -- ---- the known words by number
 

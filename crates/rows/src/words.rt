@@ -1,7 +1,6 @@
 // The number of a word: a word is compared with the few known words of its length that begin as it does.
 
-ghost use Rattle.std.specs.Prelude.{◌≡◌, ◌+◌, ◌≤◌, get_or, length};
-ghost use Rattle.rows.specs.Notation.{if◌then◌else◌};
+ghost use Rattle.std.specs.Prelude.{◌≡◌, ◌+◌, ◌≤◌, get_or, length, if◌then◌else◌};
 ghost use Rattle.rows.specs.Words.{lower, no_word, other_case, same_exactly, same_ignoring_case, word_number};
 ghost use Rattle.rows.specs.WordSearch.{compared, known_words};
 

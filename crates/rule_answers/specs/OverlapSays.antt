@@ -1,7 +1,6 @@
 -- What the contract below the entry of overlaps says.
 -- Assumes nothing.
-use Rattle.std.specs.Prelude.{ℕ, ◌≡◌, List, length}
-use Rattle.rows.specs.Notation.{if◌then◌else◌}
+use Rattle.std.specs.Prelude.{ℕ, ◌≡◌, List, length, if◌then◌else◌}
 use Rattle.rows.specs.declared.answer.TypeNameError.TheVariants.{ShortBuffer}
 use Rattle.text.specs.Text.{fits, handed}
 use Rattle.rules.specs.Rules.{Rule}

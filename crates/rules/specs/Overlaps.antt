@@ -1,7 +1,6 @@
 -- Which rules overlap, and the sequence that is shown: document 02, C-11.
 -- Assumes nothing.
-use Rattle.std.specs.Prelude.{ℕ, ◌+◌, ◌*◌, ◌≤◌, ◌<◌, ◌≡◌, ◌⊎◌, Bool, true, false, List, [], ◌∷◌, ◌++◌, length, get_or, T}
-use Rattle.rows.specs.Notation.{if◌then◌else◌}
+use Rattle.std.specs.Prelude.{ℕ, ◌+◌, ◌*◌, ◌≤◌, ◌<◌, ◌≡◌, ◌⊎◌, Bool, true, false, List, [], ◌∷◌, ◌++◌, length, get_or, T, if◌then◌else◌}
 use Rattle.rows.specs.Format.{longest_word}
 use Rattle.rules.specs.RuleTable.{most_items, after_two, item_bytes}
 use Rattle.rules.specs.Rules.{Node, Item, word, kind, group, list, any, Rule, good_nodes, matches}

@@ -1,7 +1,6 @@
 -- What the code is lent of a row to see its tree's nodes as rules do. Document 02, C-11.
 -- Assumes nothing.
-use Rattle.std.specs.Prelude.{ℕ, ◌≤◌, ◌<◌, ◌≡◌, List, length, get_or, eqb, leb, ltb}
-use Rattle.rows.specs.Notation.{if◌then◌else◌}
+use Rattle.std.specs.Prelude.{ℕ, ◌≤◌, ◌<◌, ◌≡◌, List, length, get_or, eqb, leb, ltb, if◌then◌else◌}
 use Rattle.rows.specs.Kinds.{Identifier, End}
 use Rattle.rows.specs.Format.{format}
 use Rattle.rows.specs.Records.{RowToken, found, kinds_of, places_of, word_in}

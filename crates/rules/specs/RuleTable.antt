@@ -1,7 +1,6 @@
 -- The rule table's file: document 02, C-11: "A table is a file of records, one a rule: length, kind 272 (2 bytes each), then the items."
 -- Assumes nothing.
-use Rattle.std.specs.Prelude.{ℕ, zero, suc, ◌+◌, Bool, true, false, ◌&&◌, List, [], ◌∷◌, length, get_or, take, drop, leb, eqb}
-use Rattle.rows.specs.Notation.{if◌then◌else◌}
+use Rattle.std.specs.Prelude.{ℕ, zero, suc, ◌+◌, Bool, true, false, ◌&&◌, List, [], ◌∷◌, length, get_or, take, drop, leb, eqb, if◌then◌else◌}
 use Rattle.rows.specs.Format.{short_bytes, at_kind}
 use Rattle.rows.specs.Records.{little_endian}
 use Rattle.rules.specs.Rules.{Item, word, kind, group, list, any, Rule, good_word, good_kind}

@@ -1,7 +1,6 @@
 -- Rules over the top-level nodes of a tree, and which rule wins: document 02, C-11.
 -- Assumes nothing.
-use Rattle.std.specs.Prelude.{ℕ, suc, Bool, true, false, ◌&&◌, List, [], ◌∷◌, length, leb, eqb}
-use Rattle.rows.specs.Notation.{if◌then◌else◌}
+use Rattle.std.specs.Prelude.{ℕ, suc, Bool, true, false, ◌&&◌, List, [], ◌∷◌, length, leb, eqb, if◌then◌else◌}
 use Rattle.rows.specs.Format.{longest_word}
 use Rattle.rows.specs.Kinds.{Identifier, End}
 use Rattle.rows.specs.Records.{in_range}

@@ -1,7 +1,6 @@
 -- The top-level nodes of a tree as rules see them: document 02, C-11.
 -- Assumes nothing.
-use Rattle.std.specs.Prelude.{List, [], ◌∷◌, get_or, eqb}
-use Rattle.rows.specs.Notation.{if◌then◌else◌}
+use Rattle.std.specs.Prelude.{List, [], ◌∷◌, get_or, eqb, if◌then◌else◌}
 use Rattle.rows.specs.Kinds.{Identifier, NoToken}
 use Rattle.rows.specs.Records.{RowToken}
 use Rattle.reader.specs.Nodes.{NodeKind, t_node, g_node, b_node, l_node, a_node, Nodes, none, node}

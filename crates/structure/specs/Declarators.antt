@@ -2,10 +2,10 @@
 -- `validate_abstract_declarator`, an arm a line. Document 01, "Node record". s and w: shape and word of the node; `left`, `right`: shape of the node
 -- before and after it; lw: word of the node before it. Words are compared exactly.
 -- Assumes nothing.
-use Rattle.std.specs.Prelude.{ℕ, Bool, ◌&&◌, ◌||◌}
+use Rattle.std.specs.Prelude.{ℕ, Bool, ◌&&◌, ◌||◌, if◌then◌else◌}
 use Rattle.std.proofs.Math.Bool.{true, false, not}
 use Rattle.std.proofs.Math.Dec.{eqb}
-use Rattle.rows.specs.Notation.{if◌then◌else◌, ◌is_one_of◌}
+use Rattle.rows.specs.Notation.{◌is_one_of◌}
 use Rattle.rows.specs.Languages.{C, Cpp}
 use Rattle.rows.specs.Kinds.{Identifier, Scope, Star}
 use Rattle.rows.specs.Words.{noexcept, _Atomic, decltype, _BitInt}

@@ -1,7 +1,7 @@
 -- What is done at a node of an expression: the loop of `validate_expression`, an arm a line. Document 01, "Node record".
 -- Assumes nothing.
-use Rattle.std.specs.Prelude.{ℕ, suc, pred, Bool, true, false, ◌&&◌, not, eqb}
-use Rattle.rows.specs.Notation.{if◌then◌else◌, ◌is_one_of◌}
+use Rattle.std.specs.Prelude.{ℕ, suc, pred, Bool, true, false, ◌&&◌, not, eqb, if◌then◌else◌}
+use Rattle.rows.specs.Notation.{◌is_one_of◌}
 use Rattle.rows.specs.Languages.{Cpp, Fortran}
 use Rattle.rows.specs.Kinds.{Identifier, Question, Colon, Scope}
 use Rattle.type_nodes.specs.Shapes.{Parenthesized, Bracketed, TemplateArguments}

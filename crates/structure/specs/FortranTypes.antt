@@ -1,9 +1,9 @@
 -- A Fortran type name: `validate_fortran_type`, its head, and what its loop does at a node. Document 01, "Node record" and "Steps". Words are compared
 -- with case ignored.
 -- Assumes nothing.
-use Rattle.std.specs.Prelude.{ℕ, Bool, true, ◌&&◌, not, List, eqb}
+use Rattle.std.specs.Prelude.{ℕ, Bool, true, ◌&&◌, not, List, eqb, if◌then◌else◌}
 use Rattle.std.proofs.Math.Bool.{false}
-use Rattle.rows.specs.Notation.{if◌then◌else◌, ◌is_one_of◌}
+use Rattle.rows.specs.Notation.{◌is_one_of◌}
 use Rattle.rows.specs.Kinds.{Identifier, Integer, Star}
 use Rattle.rows.specs.Words.{no_word, double, ignoring_case}
 use Rattle.reader.specs.Nodes.{Nodes}

@@ -1,9 +1,8 @@
 -- The selectors in the parentheses of a Fortran type. Document 01, "Node record" and "Steps". `check`: the counted checks, as specs/Checks.antt makes
 -- them.
 -- Assumes nothing.
-use Rattle.std.specs.Prelude.{ℕ, ◌&&◌, ◌||◌, not, List}
+use Rattle.std.specs.Prelude.{ℕ, ◌&&◌, ◌||◌, not, List, if◌then◌else◌}
 use Rattle.std.proofs.Math.Dec.{eqb}
-use Rattle.rows.specs.Notation.{if◌then◌else◌}
 use Rattle.rows.specs.Kinds.{Identifier, Colon, Star, Equal}
 use Rattle.reader.specs.Nodes.{Nodes}
 use Rattle.type_nodes.specs.Nodes.{empty, next, shape, is_single_token}

@@ -1,8 +1,7 @@
 -- The structure check: `validate_structured_syntax` of type_name.rs restated over trees: whether it holds (if not, refusal 30), and its steps.
 -- Document 01, "Node record" and "Steps".
 -- Assumes nothing.
-use Rattle.std.specs.Prelude.{ℕ, List, eqb}
-use Rattle.rows.specs.Notation.{if◌then◌else◌}
+use Rattle.std.specs.Prelude.{ℕ, List, eqb, if◌then◌else◌}
 use Rattle.rows.specs.Languages.{Fortran}
 use Rattle.reader.specs.Nodes.{Nodes}
 use Rattle.structure.specs.Said.{Said, a_type, both, either, plain, every}

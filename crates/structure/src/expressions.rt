@@ -1,7 +1,6 @@
 // What the loop of `validate_expression` does at a node.
 
-ghost use Rattle.std.specs.Prelude.{◌≡◌, ◌+◌, ◌<◌, pred};
-ghost use Rattle.rows.specs.Notation.{if◌then◌else◌};
+ghost use Rattle.std.specs.Prelude.{◌≡◌, ◌+◌, ◌<◌, pred, if◌then◌else◌};
 ghost use Rattle.type_nodes.specs.Moves.{some_expression, optional_expression};
 ghost use Rattle.structure.specs.Expressions.{expression_node, expression_end};
 ghost use Rattle.structure.specs.RepresentedMoves.{test_of, expression_state_of, Moves};

@@ -1,7 +1,6 @@
 -- Decimal numbers as text, numbers as little-endian bytes, and what it is to put such bytes behind others.
 -- Assumes nothing.
-use Rattle.std.specs.Prelude.{ℕ, zero, suc, ◌+◌, ◌-◌, ◌/◌, ◌%◌, ◌≡◌, Bool, List, [], ◌∷◌, ◌++◌, length, take, drop, leb, ltb}
-use Rattle.rows.specs.Notation.{if◌then◌else◌}
+use Rattle.std.specs.Prelude.{ℕ, zero, suc, ◌+◌, ◌-◌, ◌/◌, ◌%◌, ◌≡◌, Bool, List, [], ◌∷◌, ◌++◌, length, take, drop, leb, ltb, if◌then◌else◌}
 use Rattle.rows.specs.Records.{byte_values}
 
 -- ---- decimal numbers

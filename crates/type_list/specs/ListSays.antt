@@ -1,8 +1,7 @@
 -- What the contracts below the entry say: of a part, of the parts taken so far, and of the buffer. They are worded with the definitions of Parts.antt
 -- and ListAnswers.antt.
 -- Assumes nothing.
-use Rattle.std.specs.Prelude.{ℕ, ◌+◌, ◌*◌, ◌-◌, ◌≤◌, ◌≡◌, List, [], ◌++◌, length, take, drop, ltb}
-use Rattle.rows.specs.Notation.{if◌then◌else◌}
+use Rattle.std.specs.Prelude.{ℕ, ◌+◌, ◌*◌, ◌-◌, ◌≤◌, ◌≡◌, List, [], ◌++◌, length, take, drop, ltb, if◌then◌else◌}
 use Rattle.rows.specs.Format.{most_tokens}
 use Rattle.rows.specs.Records.{RowToken, kinds_of, words_of}
 use Rattle.rows.specs.declared.answer.Answer.{Answer}

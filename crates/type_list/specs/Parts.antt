@@ -1,7 +1,6 @@
 -- The parts of a row: document 02, C-12, "Read it as parts cut at commas outside brackets and angles, each part as its own row".
 -- Assumes nothing.
-use Rattle.std.specs.Prelude.{ℕ, zero, suc, List, [], ◌∷◌, length, take, drop, eqb, ltb}
-use Rattle.rows.specs.Notation.{if◌then◌else◌}
+use Rattle.std.specs.Prelude.{ℕ, zero, suc, List, [], ◌∷◌, length, take, drop, eqb, ltb, if◌then◌else◌}
 use Rattle.rows.specs.Records.{RowToken, kinds_of}
 use Rattle.rows.specs.Refusals.{refusal_of}
 use Rattle.rows.specs.declared.answer.TypeNameError.{TypeNameError}

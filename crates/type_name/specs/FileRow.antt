@@ -1,7 +1,6 @@
 -- A file's head and row, or a refusal that touches no buffer: the first three places of document 01's table, "File", "Each record in turn", "Buffer".
 -- Assumes nothing.
-use Rattle.std.specs.Prelude.{ℕ, ◌*◌, List, length, ltb}
-use Rattle.rows.specs.Notation.{if◌then◌else◌}
+use Rattle.std.specs.Prelude.{ℕ, ◌*◌, List, length, ltb, if◌then◌else◌}
 use Rattle.rows.specs.Format.{head_length, most_tokens}
 use Rattle.rows.specs.Records.{RowToken, Row, row, head, records_from}
 use Rattle.rows.specs.Records

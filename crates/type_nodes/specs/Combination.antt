@@ -1,8 +1,7 @@
 -- Which builtin type words go together: the word counts of `validate_c_decl_specifiers`, and what it asks of them. Document 01, "Port order and what
 -- changes shape". `seen`: how often each builtin type word and each qualifier was seen, by word number (`builtin_words` and `qualifiers` in one list).
 -- Assumes nothing.
-use Rattle.std.specs.Prelude.{ℕ, suc, Bool, false, ◌&&◌, ◌||◌, not, List, [], ◌∷◌, get_or, set, replicate, leb, ltb, eqb}
-use Rattle.rows.specs.Notation.{if◌then◌else◌}
+use Rattle.std.specs.Prelude.{ℕ, suc, Bool, false, ◌&&◌, ◌||◌, not, List, [], ◌∷◌, get_or, set, replicate, leb, ltb, eqb, if◌then◌else◌}
 use Rattle.rows.specs.Words.{void, char, short, long, signed, unsigned, float, double, _Atomic}
 use Rattle.type_nodes.specs.Sets.{builtin_type_words, scalar_bases}
 

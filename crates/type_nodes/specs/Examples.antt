@@ -1,7 +1,7 @@
 -- Computed examples of the declaration specifiers and of the operators, so that a wrong edit of a definition is refused here. The answers to
 -- specifiers are those of type_name.rs to the whole row, which they decide.
-use Rattle.std.specs.Prelude.{ℕ, zero, suc, ◌+◌, ◌≡◌, refl, Bool, true, false, List, [], ◌∷◌, ◌++◌, length, eqb}
-use Rattle.rows.specs.Notation.{if◌then◌else◌, ◌is_one_of◌}
+use Rattle.std.specs.Prelude.{ℕ, zero, suc, ◌+◌, ◌≡◌, refl, Bool, true, false, List, [], ◌∷◌, ◌++◌, length, eqb, if◌then◌else◌}
+use Rattle.rows.specs.Notation.{◌is_one_of◌}
 use Rattle.rows.specs.Languages.{C, Cpp, Fortran}
 use Rattle.rows.specs.Kinds.{Identifier, Integer, LeftParen, RightParen, Scope, Star}
 use Rattle.rows.specs.Words.{no_word, int, double, long, signed, unsigned, const, _BitInt, struct, class, other_case}

@@ -1,9 +1,8 @@
 -- The nodes of a level as the structure check sees them: a node's shape, and of an identifier its word number besides. Document 01, "Node record".
 -- Assumes nothing.
-use Rattle.std.specs.Prelude.{ℕ, Bool, true, false, ◌&&◌, List, [], ◌∷◌}
+use Rattle.std.specs.Prelude.{ℕ, Bool, true, false, ◌&&◌, List, [], ◌∷◌, if◌then◌else◌}
 use Rattle.std.proofs.Math.ListN.{get_or}
 use Rattle.std.proofs.Math.Dec.{eqb}
-use Rattle.rows.specs.Notation.{if◌then◌else◌}
 use Rattle.rows.specs.Kinds.{Identifier, Dot}
 use Rattle.rows.specs.Words.{no_word, exactly, ignoring_case}
 use Rattle.reader.specs.Nodes.{Nodes, none, node}

@@ -1,8 +1,8 @@
 -- The sets of words and tokens that the structure check compares with, each listed as type_name.rs lists it and in its order.
 -- Document 01, "Node record": "Structure and profile rules are those of `validate_structured_syntax` and `validate_profile_features`".
 -- Assumes nothing.
-use Rattle.std.specs.Prelude.{ℕ, Bool, ◌||◌, List, [], ◌∷◌, eqb}
-use Rattle.rows.specs.Notation.{if◌then◌else◌, ◌is_one_of◌}
+use Rattle.std.specs.Prelude.{ℕ, Bool, ◌||◌, List, [], ◌∷◌, eqb, if◌then◌else◌}
+use Rattle.rows.specs.Notation.{◌is_one_of◌}
 use Rattle.rows.specs.Languages.{Fortran}
 use Rattle.rows.specs.Kinds.{Integer, Real, Character, String, Boolean, NullPointer, Comma, Scope, Dot, Percent, Arrow, Plus, Minus, Star, Slash, Power, Concat}
 use Rattle.rows.specs.Kinds.{Remainder, LogicalNot, BitwiseNot, Ampersand, Pipe, Caret, LogicalAnd, LogicalOr, LogicalEqv, LogicalNeqv, Equal, EqualEqual}

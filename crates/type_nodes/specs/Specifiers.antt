@@ -1,9 +1,9 @@
 -- The declaration specifiers at the head of a C or C++ type name: `validate_c_decl_specifiers`, without steps. Document 01, "Node record". Words are
 -- compared exactly.
 -- Assumes nothing.
-use Rattle.std.specs.Prelude.{ℕ, Bool, true, ◌&&◌, ◌||◌, not, List, eqb}
+use Rattle.std.specs.Prelude.{ℕ, Bool, true, ◌&&◌, ◌||◌, not, List, eqb, if◌then◌else◌}
 use Rattle.std.proofs.Math.Bool.{false}
-use Rattle.rows.specs.Notation.{if◌then◌else◌, ◌is_one_of◌}
+use Rattle.rows.specs.Notation.{◌is_one_of◌}
 use Rattle.rows.specs.Languages.{C, Cpp}
 use Rattle.rows.specs.Kinds.{Identifier, Scope}
 use Rattle.rows.specs.Words.{no_word, exactly, _BitInt}

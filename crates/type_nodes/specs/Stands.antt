@@ -1,7 +1,6 @@
 -- Where nodes stand in the node records of a tree: what contracts say of a range of nodes. Document 01, "Node record".
 -- Assumes nothing.
-use Rattle.std.specs.Prelude.{ℕ, suc, ◌+◌, ◌*◌, ◌≤◌, ◌<◌, ◌≡◌, false, List, length, eqb}
-use Rattle.rows.specs.Notation.{if◌then◌else◌}
+use Rattle.std.specs.Prelude.{ℕ, suc, ◌+◌, ◌*◌, ◌≤◌, ◌<◌, ◌≡◌, false, List, length, eqb, if◌then◌else◌}
 use Rattle.rows.specs.Kinds.{Comma}
 use Rattle.reader.specs.Nodes.{NodeKind, number, Nodes, none, node, count, node_width, kind_of, token_of, extent_of, numbers_bound}
 use Rattle.type_nodes.specs.Nodes.{empty, shape}

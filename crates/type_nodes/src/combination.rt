@@ -1,7 +1,6 @@
 // Which builtin type words go together: `seen` says how often each builtin type word and each qualifier was seen, by word number.
 
-ghost use Rattle.std.specs.Prelude.{◌≡◌, ◌<◌, eqb};
-ghost use Rattle.rows.specs.Notation.{if◌then◌else◌};
+ghost use Rattle.std.specs.Prelude.{◌≡◌, ◌<◌, eqb, if◌then◌else◌};
 ghost use Rattle.rows.specs.Words.{long};
 ghost use Rattle.type_nodes.specs.Combination.{times, has, how_many, builtin_words, too_often, validate_c_bit_int_sign, validate_c_builtin_combination, counted_words};
 ghost use Rattle.type_nodes.specs.RepresentedSpecifiers.{HaveCounts};

@@ -3,8 +3,8 @@
 // often each builtin type word and each qualifier was seen, by word number; `none` and `single`: no builtin type word was, and one once, kept beside
 // the counts so that most types need not look through them.
 
-ghost use Rattle.std.specs.Prelude.{◌≡◌, true, not, ◌&&◌, ◌||◌, [], ◌∷◌, ◌<◌, eqb};
-ghost use Rattle.rows.specs.Notation.{if◌then◌else◌, ◌is_one_of◌};
+ghost use Rattle.std.specs.Prelude.{◌≡◌, true, not, ◌&&◌, ◌||◌, [], ◌∷◌, ◌<◌, eqb, if◌then◌else◌};
+ghost use Rattle.rows.specs.Notation.{◌is_one_of◌};
 ghost use Rattle.rows.specs.Languages.{Cpp};
 ghost use Rattle.rows.specs.Kinds.{Identifier, Scope};
 ghost use Rattle.rows.specs.Words.{no_word, _BitInt};

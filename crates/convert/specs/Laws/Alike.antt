@@ -1,11 +1,10 @@
 -- Which answers differ under what 254 and what 255 mean: those of C with a feature that C23 brought, and no others.
 -- Assumes nothing.
-use Rattle.std.specs.Prelude.{ℕ, ◌≡◌, Bool, true, false, ◌&&◌, ◌⊎◌, List, [], ◌∷◌, T, leb}
+use Rattle.std.specs.Prelude.{ℕ, ◌≡◌, Bool, true, false, ◌&&◌, ◌⊎◌, List, [], ◌∷◌, T, leb, if◌then◌else◌}
 use Rattle.std.proofs.Math.Path.{refl, sym}
 use Rattle.std.proofs.Common.{◌∙◌, inr, le-ltb, leb→le}
 use Rattle.std.proofs.Math.Logic.{inl}
 use Rattle.std.proofs.Math.Facts.{and_yes}
-use Rattle.rows.specs.Notation.{if◌then◌else◌}
 use Rattle.rows.specs.Languages.{C, Cpp, Fortran, C18, C23, Cpp17, Cpp23, Fortran2018, Fortran2023}
 use Rattle.rows.specs.Laws.Tests.{and_false}
 use Rattle.rows.specs.declared.answer.Feature.{Feature}

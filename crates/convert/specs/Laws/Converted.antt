@@ -1,8 +1,7 @@
 -- The theorems of the conversions, from the fields behind a converted file.
 -- Assumes nothing.
-use Rattle.std.specs.Prelude.{ℕ, ◌+◌, ◌*◌, ◌≤◌, ◌≡◌, refl, Bool, true, false, List, length, get_or, ltb}
+use Rattle.std.specs.Prelude.{ℕ, ◌+◌, ◌*◌, ◌≤◌, ◌≡◌, refl, Bool, true, false, List, length, get_or, ltb, if◌then◌else◌}
 use Rattle.std.proofs.Common.{sym, ap, subst, ◌∙◌, arith, ltb-false, le-ltb}
-use Rattle.rows.specs.Notation.{if◌then◌else◌}
 use Rattle.rows.specs.Format.{format, old_format, at_language, at_standard, most_tokens, standard_255}
 use Rattle.rows.specs.declared.format.Format.{Format}
 use Rattle.rows.specs.declared.answer.TypeNameError.TheVariants.{FileTooLong, OffsetOver32Bits}

@@ -3,14 +3,13 @@
 use Prim.Native.Nat.{ℕ, zero, suc, ◌+◌, ◌*◌, ◌≤◌, ◌<◌}
 use Rattle.std.proofs.Math.Path.{◌≡◌, refl, ap, subst}
 use Rattle.std.proofs.Common.{sym, ◌∙◌, arith, lt_of_not-le}
-use Rattle.std.specs.Prelude.{Bool, List, [], ◌∷◌, get_or, leb, eqb}
+use Rattle.std.specs.Prelude.{Bool, List, [], ◌∷◌, get_or, leb, eqb, if◌then◌else◌}
 use Rattle.std.proofs.Math.Bool.{true, false, not}
 use Rattle.std.proofs.Math.Logic.{inl, inr}
 use Rattle.std.proofs.Math.Decide.{dec_le}
 use borrow.Author.Tests.{le-ltb, le-leb, ne_eqb, eqb-false, ltb-false}
 use Rattle.std.proofs.Math.ListN.{length}
 use Rattle.std.proofs.Math.Dec.{ltb}
-use Rattle.rows.specs.Notation.{if◌then◌else◌}
 use Rattle.rows.specs.Languages.{C, Cpp, Fortran, C18, C23, Cpp17, Cpp23, Fortran2018, Fortran2023}
 use Rattle.rows.specs.Format.{format, old_format, head_length, at_language, at_standard, at_flag, most_tokens, declared, stands_for, standard_254, standard_255, meant, SameOrLater}
 use Rattle.rows.specs.Refusals.{refusal_of}

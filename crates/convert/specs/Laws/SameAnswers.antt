@@ -1,10 +1,9 @@
 -- No entry looks at the places of a row's tokens: the same head and row get the same answer.
 -- Assumes nothing.
-use Rattle.std.specs.Prelude.{ℕ, zero, suc, ◌-◌, ◌≡◌, Bool, true, false, length, get_or, take, drop, eqb, ltb}
+use Rattle.std.specs.Prelude.{ℕ, zero, suc, ◌-◌, ◌≡◌, Bool, true, false, length, get_or, take, drop, eqb, ltb, if◌then◌else◌}
 use Rattle.std.proofs.Math.Path.{refl}
 use Rattle.std.proofs.Common.{ap, ◌∙◌}
 use mathlib.Core.List.{List, [], ◌∷◌}
-use Rattle.rows.specs.Notation.{if◌then◌else◌}
 use Rattle.rows.specs.Languages.{Cpp}
 use Rattle.rows.specs.Records.{RowToken, kinds_of, words_of}
 use Rattle.rows.specs.declared.head.Head.{Head}

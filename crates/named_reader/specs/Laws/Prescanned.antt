@@ -1,14 +1,13 @@
 -- Behind a prescan that passed, this reading refuses at a token or not at all, and only with 20, 26 or 27: no bracket is left to refuse, and no list is open
 -- at the row's end. Its groups are the brackets that the prescan holds, and outside them it has at most the angles open that the prescan counts.
 -- Assumes nothing.
-use Rattle.std.specs.Prelude.{ℕ, suc, ◌-◌, ◌≤◌, ◌<◌, Bool, ◌&&◌, length, drop, ltb}
+use Rattle.std.specs.Prelude.{ℕ, suc, ◌-◌, ◌≤◌, ◌<◌, Bool, ◌&&◌, length, drop, ltb, if◌then◌else◌}
 use Rattle.std.proofs.Math.Path.{◌≡◌, refl, ap}
 use Rattle.std.proofs.Common.{sym, ◌∙◌, subst, arith, T_not, eqb→eq}
 use Rattle.std.proofs.Math.Bool.{true, false, not}
 use mathlib.Core.List.{List, [], ◌∷◌}
 use Rattle.std.proofs.Math.Facts.{and_yes}
 use Rattle.std.proofs.Math.Dec.{T, leb, eqb, leb→le, nleb→lt}
-use Rattle.rows.specs.Notation.{if◌then◌else◌}
 use Rattle.rows.specs.Kinds.{Comma, Less, Greater, ShiftRight, End}
 use Rattle.rows.specs.Languages.{Cpp}
 use Rattle.rows.specs.Laws.Tests.{by_if}

@@ -1,6 +1,6 @@
 -- How long a token record is, and that the names of a list have bytes. Assumes nothing.
 use Prim.Native.Nat.{ℕ, zero, suc, ◌+◌, ◌-◌, ◌≤◌, ◌<◌}
-use Rattle.std.specs.Prelude.{◌≡◌, ◌≢◌, Bool, ◌&&◌, take, drop, ltb, eqb}
+use Rattle.std.specs.Prelude.{◌≡◌, ◌≢◌, Bool, ◌&&◌, take, drop, ltb, eqb, if◌then◌else◌}
 use Rattle.std.proofs.Math.Path.{refl, sym, subst}
 use Rattle.std.proofs.Common.{◌∙◌, arith, length-take, length-drop}
 use Rattle.std.proofs.Math.Bool.{true, false}
@@ -8,7 +8,6 @@ use mathlib.Core.List.{List, [], ◌∷◌}
 use Rattle.std.proofs.Math.ListN.{length}
 use Rattle.std.proofs.Math.Dec.{T, leb, leb→le, ltb→lt, eqb→eq}
 use Rattle.std.proofs.Math.Facts.{and_yes, eqb_no}
-use Rattle.rows.specs.Notation.{if◌then◌else◌}
 use Rattle.rows.specs.Kinds.{Identifier, End}
 use Rattle.rows.specs.Format.{format, short_bytes, token_length, longest_word}
 use Rattle.rows.specs.Records.{little_endian, RowToken, Tokens, tokens, before_tokens, Row, found, word_at, length_at, kind_at, span_start_at, span_end_at, length_fits, word_fits, in_range, well_formed, tokens_from, to_end, records_from}

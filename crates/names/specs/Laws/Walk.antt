@@ -3,12 +3,11 @@
 use Prim.Native.Nat.{ℕ, zero, suc, ◌+◌, ◌-◌, ◌≤◌, ◌<◌}
 use Rattle.std.proofs.Math.Path.{◌≡◌, refl, ap, subst}
 use Rattle.std.proofs.Common.{sym, ◌∙◌, arith, length-set}
-use Rattle.std.specs.Prelude.{Bool, get_or, drop, set, leb}
+use Rattle.std.specs.Prelude.{Bool, get_or, drop, set, leb, if◌then◌else◌}
 use Rattle.std.proofs.Math.Bool.{true, false}
 use mathlib.Core.List.{List, [], ◌∷◌}
 use Rattle.std.proofs.Math.ListN.{length, length-map}
 use Rattle.rows.specs.Kinds.{Less}
-use Rattle.rows.specs.Notation.{if◌then◌else◌}
 use Rattle.rows.specs.Format.{format, head_length, most_tokens}
 use Rattle.rows.specs.Records.{RowToken, Tokens, tokens, malformed, row, found, word_at, length_at, before_tokens, after_record, tokens_from, to_end, records_from, kinds_of, places_of}
 use Rattle.rows.specs.Records

@@ -1,11 +1,10 @@
 -- Of an accepted tree the walk by extents gives what is counted from the full tree.
 -- Assumes nothing.
 use Prim.Native.Nat.{ℕ, suc, ◌-◌, ◌<◌}
-use Rattle.std.specs.Prelude.{◌≡◌, ◌≢◌, Bool, true, false, ◌&&◌, length, T}
+use Rattle.std.specs.Prelude.{◌≡◌, ◌≢◌, Bool, true, false, ◌&&◌, length, T, if◌then◌else◌}
 use Rattle.std.proofs.Math.Path.{refl, sym, subst}
 use Rattle.std.proofs.Common.{ap, ◌∙◌, arith}
 use mathlib.Core.List.{List, [], ◌∷◌, Memᴰ}
-use Rattle.rows.specs.Notation.{if◌then◌else◌}
 use Rattle.reader.specs.Nodes.{t_node, g_node, b_node, l_node, a_node, Nodes, none, node, number, count, records, kind_of, extent_of}
 use Rattle.reader.specs.Laws.NodeNumbers.{three_each}
 use Rattle.type_nodes.specs.Nodes.{next, arguments_of}

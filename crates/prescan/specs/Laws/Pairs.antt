@@ -1,12 +1,11 @@
 -- A row that passes the prescan has all its brackets paired: the plain matcher goes on as the prescan does, with the same openers held.
 -- Assumes nothing.
-use Rattle.std.specs.Prelude.{ℕ, suc, refl, Bool, true, false, ◌&&◌}
+use Rattle.std.specs.Prelude.{ℕ, suc, refl, Bool, true, false, ◌&&◌, if◌then◌else◌}
 use Rattle.std.proofs.Math.Path.{◌≡◌}
 use Rattle.std.proofs.Math.Bool.{not}
 use mathlib.Core.List.{List, [], ◌∷◌}
 use Rattle.std.proofs.Common.{arith}
 use Rattle.std.proofs.Math.Dec.{leb, eqb}
-use Rattle.rows.specs.Notation.{if◌then◌else◌}
 use Rattle.rows.specs.Kinds.{Comma, Less, Greater, ShiftRight, End}
 use Rattle.rows.specs.Laws.Tests.{by_if}
 use Rattle.rows.specs.declared.answer.Delimiter.{Delimiter}

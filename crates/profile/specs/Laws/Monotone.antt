@@ -1,10 +1,9 @@
 -- A standard lacks no feature that an earlier standard of its language has. The language is a parameter: nothing here looks at it.
 -- Assumes nothing.
-use Rattle.std.specs.Prelude.{ℕ, ◌≤◌, ◌≡◌, Bool, true, false, ◌&&◌, leb, ltb}
+use Rattle.std.specs.Prelude.{ℕ, ◌≤◌, ◌≡◌, Bool, true, false, ◌&&◌, leb, ltb, if◌then◌else◌}
 use Rattle.std.proofs.Math.Path.{refl}
 use Rattle.std.proofs.Common.{sym, ap, ◌∙◌, arith, ltb-false, le-ltb}
 use mathlib.Core.List.{List, [], ◌∷◌}
-use Rattle.rows.specs.Notation.{if◌then◌else◌}
 use Rattle.rows.specs.Refusals.{feature_detail}
 use Rattle.rows.specs.declared.answer.Feature.{Feature}
 use Rattle.profile.specs.Profile.{Since, ignores_case, uses, features, least, lacking, missing_feature}

@@ -1,11 +1,10 @@
 -- Every `(` has exactly one G and every `[` exactly one B: their tokens in the tree are those of the row, in order.
 -- Assumes nothing.
-use Rattle.std.specs.Prelude.{ℕ, suc, ◌≤◌, ◌≡◌, ◌≢◌, Bool, true, false, drop, eqb}
+use Rattle.std.specs.Prelude.{ℕ, suc, ◌≤◌, ◌≡◌, ◌≢◌, Bool, true, false, drop, eqb, if◌then◌else◌}
 use Rattle.std.proofs.Math.Path.{refl, sym, ap}
 use Rattle.std.proofs.Common.{◌∙◌, arith, ne_eqb, drop_of_length-le}
 use mathlib.Core.List.{List, ◌∷◌, ◌++◌, append-nil, append_assoc}
 use Rattle.std.proofs.Math.ListN.{length}
-use Rattle.rows.specs.Notation.{if◌then◌else◌}
 use Rattle.rows.specs.Kinds.{LeftParen, LeftBracket, Comma, Less, Greater, ShiftRight, NoToken}
 use Rattle.reader.specs.Nodes.{NodeKind, t_node, g_node, b_node, l_node, a_node, number, Nodes}
 use Rattle.reader.specs.Reading.{Region, kind_at}

@@ -1,6 +1,6 @@
 -- The known words of a word's length that begin as it does give its number.
 -- Assumes nothing.
-use Rattle.std.specs.Prelude.{ℕ, suc, ◌+◌, ◌<◌, ◌≡◌, Bool, not, ◌&&◌, length, get_or, take, drop, T}
+use Rattle.std.specs.Prelude.{ℕ, suc, ◌+◌, ◌<◌, ◌≡◌, Bool, not, ◌&&◌, length, get_or, take, drop, T, if◌then◌else◌}
 use Rattle.std.proofs.Math.Path.{refl, sym, ap}
 use Rattle.std.proofs.Common.{◌∙◌, arith, eq-eqb, eqb-true}
 use Rattle.std.proofs.Math.Bool.{true, false}
@@ -9,7 +9,6 @@ use Rattle.std.proofs.lemmas.Bool.{eqb-false}
 use Rattle.std.proofs.Math.Facts.{and_yes}
 use Rattle.std.proofs.Math.Dec.{eqb}
 use Rattle.rows.specs.Laws.Tests.{and_false}
-use Rattle.rows.specs.Notation.{if◌then◌else◌}
 use Rattle.rows.specs.Words.{Known, known, bytes, same_through, same_exactly, same_ignoring_case, lower, number_among, word_number, no_word, other_case}
 use Rattle.rows.specs.WordSearch.{compared}
 use Rattle.rows.specs.Laws.KnownWords.{byte_differs, nothing_yet}

@@ -1,12 +1,11 @@
 -- When two rules overlap, and what the shown sequence says: document 02, C-11. Assumes nothing.
-use Rattle.std.specs.Prelude.{ℕ, ◌≤◌, ◌≡◌, refl, ◌⊎◌, ◌↔◌, Bool, true, not, ◌||◌, length, get_or, drop, eqb, T}
+use Rattle.std.specs.Prelude.{ℕ, ◌≤◌, ◌≡◌, refl, ◌⊎◌, ◌↔◌, Bool, true, not, ◌||◌, length, get_or, drop, eqb, T, if◌then◌else◌}
 use Rattle.std.proofs.Common.{sym, ap, ◌∙◌, subst, inl, inr, ⊎_elim, T_not, eqb→eq}
 use Rattle.std.proofs.Math.Bool.{false}
 use mathlib.Core.List.{List, [], ◌∷◌, map}
 use native.Mathlib.Omega.{arith}
 use Rattle.std.proofs.Math.Dec.{eqb_refl}
 use Rattle.std.proofs.Math.Facts.{and_yes, yes_and, or_yes}
-use Rattle.rows.specs.Notation.{if◌then◌else◌}
 use Rattle.rows.specs.Laws.Tests.{by_if}
 use Rattle.rows.specs.Words.{same_exactly, same_through}
 use Rattle.rules.specs.Rules.{Node, word_node, kind_node, group_node, list_node, Item, word, kind, group, list, any, Rule, good_node, good_nodes, good_item, good_items, fits, matches_items, matches}

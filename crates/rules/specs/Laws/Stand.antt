@@ -1,6 +1,6 @@
 -- What stands in a table that was read: document 02, C-11. Assumes nothing.
 use Prim.Native.Nat.{ℕ, zero, suc, ◌+◌, ◌-◌, ◌≤◌, ◌<◌}
-use Rattle.std.specs.Prelude.{◌≡◌, ◌≢◌, Bool, true, false, not, ◌&&◌, List, [], ◌∷◌, ◌++◌, drop, T, leb, ltb}
+use Rattle.std.specs.Prelude.{◌≡◌, ◌≢◌, Bool, true, false, not, ◌&&◌, List, [], ◌∷◌, ◌++◌, drop, T, leb, ltb, if◌then◌else◌}
 use Rattle.std.proofs.Math.Path.{refl, ap}
 use Rattle.std.proofs.Common.{sym, ◌∙◌, subst, true≢false, add-one, length-take, length-drop, take-append-drop, drop-cons, get_or-take, get_or-drop, ltb→lt, lt-ltb, ltb-true, ltb-false}
 use native.Mathlib.Omega.{arith}
@@ -9,7 +9,6 @@ use Rattle.std.proofs.Math.ListN.{length, get_or, take}
 use Rattle.std.proofs.Math.Seq.{take-append_seam}
 use Rattle.std.proofs.Math.Dec.{eqb, leb→le, eqb→eq}
 use Rattle.std.proofs.Math.Facts.{and_yes, eqb_no}
-use Rattle.rows.specs.Notation.{if◌then◌else◌}
 use Rattle.rows.specs.Laws.Tests.{by_if}
 use Rattle.rules.specs.Rules.{Item, word, kind, group, list, any, Rule, good_item, good_word, good_kind}
 use Rattle.rules.specs.RuleTable.{ItemFound, no_item, item, RuleFound, no_rule, a_rule, word_byte, kind_byte, group_byte, list_byte, any_byte, rest_byte, after_two, item_bytes, word_item, kind_item, item_at, rest_at, items_from, front, with_item}

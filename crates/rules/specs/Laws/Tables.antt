@@ -1,6 +1,6 @@
 -- The loops that read a rule's items and a table's rules. Assumes nothing.
 use Prim.Native.Nat.{ℕ, zero, suc, ◌+◌, ◌-◌, ◌≤◌, ◌<◌}
-use Rattle.std.specs.Prelude.{◌≡◌, ◌≢◌, ◌&&◌, length, get_or, set, leb, eqb, T}
+use Rattle.std.specs.Prelude.{◌≡◌, ◌≢◌, ◌&&◌, length, get_or, set, leb, eqb, T, if◌then◌else◌}
 use Rattle.std.proofs.Math.Path.{refl, sym, ap}
 use Rattle.std.proofs.Common.{◌∙◌, subst, arith, lt_of_not-le, length-append, length-set, get_or-set_other, leb→le}
 use Rattle.std.proofs.Math.Bool.{Bool, true, false}
@@ -11,7 +11,6 @@ use Rattle.std.proofs.Math.Seq.{get_or-set_same, get_or-append_seam}
 use Rattle.std.proofs.Math.Facts.{and_yes}
 use Rattle.rows.specs.Laws.Tests.{by_if}
 use borrow.Author.Tests.{le-leb, lt-leb, eq-eqb, ne_eqb}
-use Rattle.rows.specs.Notation.{if◌then◌else◌}
 use Rattle.rows.specs.Format.{short_bytes, at_kind}
 use Rattle.rows.specs.Records.{little_endian}
 use Rattle.rules.specs.Rules.{Item, Rule}

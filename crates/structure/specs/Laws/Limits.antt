@@ -1,12 +1,11 @@
 -- Checks one after another under one allowance. Assumes nothing.
-use Rattle.std.specs.Prelude.{ℕ, ◌+◌, ◌-◌, ◌<◌, ◌≡◌, Bool, true, false, [], ◌∷◌, leb}
+use Rattle.std.specs.Prelude.{ℕ, ◌+◌, ◌-◌, ◌<◌, ◌≡◌, Bool, true, false, [], ◌∷◌, leb, if◌then◌else◌}
 use Rattle.std.proofs.Math.Path.{refl}
 use Rattle.std.proofs.Common.{ap, ◌∙◌, arith, le-leb}
 use Rattle.std.proofs.Math.Logic.{⊎_elim}
 use types.Run.{OneOf}
 use Rattle.std.proofs.Math.Decide.{dec_le}
 use Rattle.std.proofs.lemmas.Bool.{lt-leb}
-use Rattle.rows.specs.Notation.{if◌then◌else◌}
 use Rattle.structure.specs.Said.{Said, holds, fails, after, both, either, plain}
 use Rattle.structure.specs.Allowance.{verdict_within}
 use Rattle.structure.specs.declared.moves.Verdict.{Verdict}

@@ -1,13 +1,13 @@
 -- The arms of the tables of moves: where the tests before an arm fail and its own holds, the table gives the arm's move.
 -- Assumes nothing.
-use Rattle.std.specs.Prelude.{ℕ, pred, ◌+◌, ◌≡◌, Bool, false, ◌&&◌, ◌||◌, not}
+use Rattle.std.specs.Prelude.{ℕ, pred, ◌+◌, ◌≡◌, Bool, false, ◌&&◌, ◌||◌, not, if◌then◌else◌}
 use Rattle.std.proofs.Math.Numerals.{add-one}
 use Rattle.std.proofs.Math.Path.{sym, ap}
 use Rattle.std.proofs.Common.{◌∙◌, arith}
 use Rattle.std.proofs.Math.Bool.{true}
 use Rattle.std.proofs.Math.Dec.{eqb}
 use borrow.Author.Tests.{eq-eqb, ne_eqb, eqb-true}
-use Rattle.rows.specs.Notation.{if◌then◌else◌, ◌is_one_of◌}
+use Rattle.rows.specs.Notation.{◌is_one_of◌}
 use Rattle.rows.specs.Languages.{C, Cpp, Fortran}
 use Rattle.rows.specs.Kinds.{Identifier, Scope, Star, Question, Colon}
 use Rattle.rows.specs.Words.{decltype, noexcept, _Atomic, _BitInt}

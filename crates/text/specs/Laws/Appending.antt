@@ -1,9 +1,8 @@
 -- How pieces of text come one behind the other.
 -- Assumes nothing.
-use Rattle.std.specs.Prelude.{ℕ, zero, suc, ◌+◌, ◌-◌, ◌/◌, ◌≤◌, ◌<◌, ◌≡◌, refl, Bool, true, false, List, [], ◌∷◌, ◌++◌, length, take, drop, set, get_or, ltb}
+use Rattle.std.specs.Prelude.{ℕ, zero, suc, ◌+◌, ◌-◌, ◌/◌, ◌≤◌, ◌<◌, ◌≡◌, refl, Bool, true, false, List, [], ◌∷◌, ◌++◌, length, take, drop, set, get_or, ltb, if◌then◌else◌}
 use Rattle.std.proofs.Common.{sym, ap, subst, ◌∙◌, append_assoc, append-nil, arith, add-zero, add-suc, add-one, sub-one, length-append, length-set, take-append-drop, take-suc, take-suc-set, drop-drop, drop-set-lt, lt-ltb, le-ltb}
 use Rattle.std.proofs.Math.Seq.{take-length}
-use Rattle.rows.specs.Notation.{if◌then◌else◌}
 use Rattle.text.specs.Text.{Appended, base, most_digits, longest_ended, decimal, last_digit, last_digits, ended}
 
 -- One piece behind another.

@@ -1,6 +1,6 @@
 -- Cutting a row: the first part and the parts behind it; the parts are what `CutInto` says, and nothing else is. Assumes nothing.
 use Prim.Native.Nat.{ℕ, zero, suc, ◌≤◌, ◌<◌}
-use Rattle.std.specs.Prelude.{◌≡◌, ◌⊎◌, Bool, drop}
+use Rattle.std.specs.Prelude.{◌≡◌, ◌⊎◌, Bool, drop, if◌then◌else◌}
 use Rattle.std.proofs.Math.Path.{refl, ap}
 use Rattle.std.proofs.Common.{sym, ◌∙◌, subst, ⊎_elim, arith, lt_of_not-le, length-append, take_all, drop_at}
 use Rattle.std.proofs.Math.Logic.{inl, inr}
@@ -11,7 +11,6 @@ use borrow.Author.Tests.{eqb-true, eqb-false, ltb-true, lt-ltb, le-ltb, eq-eqb, 
 use Rattle.std.proofs.Math.ListN.{length, take, length-drop}
 use Rattle.std.proofs.Math.Seq.{take-append_seam, drop-append_seam}
 use Rattle.std.proofs.Math.Dec.{eqb, ltb}
-use Rattle.rows.specs.Notation.{if◌then◌else◌}
 use Rattle.rows.specs.Kinds.{Comma}
 use Rattle.rows.specs.Records.{RowToken, kinds_of}
 use Rattle.rows.specs.Refusals.{refusal_of}

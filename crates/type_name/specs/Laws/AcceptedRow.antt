@@ -1,10 +1,9 @@
 -- What an accepted answer comes of, place by place, and that it comes back under a later standard and any allowance not below its steps.
 -- Assumes nothing.
-use Rattle.std.specs.Prelude.{ℕ, ◌+◌, ◌≤◌, ◌≡◌, Bool, true, false, List, leb, eqb}
+use Rattle.std.specs.Prelude.{ℕ, ◌+◌, ◌≤◌, ◌≡◌, Bool, true, false, List, leb, eqb, if◌then◌else◌}
 use Rattle.std.proofs.Math.Path.{refl}
 use Rattle.std.proofs.Common.{subst}
 use borrow.Author.Tests.{le-leb}
-use Rattle.rows.specs.Notation.{if◌then◌else◌}
 use Rattle.rows.specs.Languages.{Cpp}
 use Rattle.rows.specs.Format.{format, head_length, most_tokens, SameOrLater}
 use Rattle.rows.specs.Records.{RowToken, row, head, records_from, kinds_of, words_of}

@@ -1,10 +1,10 @@
 -- The walks over a list of words that count those seen. Assumes nothing.
 use Prim.Native.Nat.{ℕ, zero, suc, ◌+◌, ◌≤◌, ◌<◌}
-use Rattle.std.specs.Prelude.{◌≡◌, refl, Bool, true, false, ◌&&◌, ◌||◌, not, List, [], ◌∷◌, length, get_or, drop, ltb, eqb}
+use Rattle.std.specs.Prelude.{◌≡◌, refl, Bool, true, false, ◌&&◌, ◌||◌, not, List, [], ◌∷◌, length, get_or, drop, ltb, eqb, if◌then◌else◌}
 use Rattle.std.proofs.Math.Path.{sym}
 use Rattle.std.proofs.Common.{◌∙◌, arith, add-one, drop_of_length-le, drop-cons, lt-ltb}
 use Rattle.std.proofs.Math.Dec.{eqb-zero-suc, eqb-suc-zero, eqb-suc-suc}
-use Rattle.rows.specs.Notation.{if◌then◌else◌, ◌is_one_of◌}
+use Rattle.rows.specs.Notation.{◌is_one_of◌}
 use Rattle.rows.specs.Words.{long}
 use Rattle.rows.specs.Laws.Tests.{or_false, or_assoc}
 use Rattle.type_nodes.specs.Sets.{builtin_type_words, is_c_builtin_type_word}

@@ -1,8 +1,8 @@
 -- The ranges of `is_binary_or_assignment_operator` decide its set: by a test that is computed over the whole table of kinds. Assumes nothing.
-use Rattle.std.specs.Prelude.{ℕ, zero, suc, ◌≤◌, ◌<◌, ◌≡◌, refl, Bool, true, false, not, ◌&&◌, List, [], ◌∷◌, length, leb, ltb, eqb}
+use Rattle.std.specs.Prelude.{ℕ, zero, suc, ◌≤◌, ◌<◌, ◌≡◌, refl, Bool, true, false, not, ◌&&◌, List, [], ◌∷◌, length, leb, ltb, eqb, if◌then◌else◌}
 use Rattle.std.proofs.Common.{sym, ◌∙◌, arith, ltb-true, ltb-false, eqb-true}
 use Rattle.std.proofs.lemmas.Bool.{lt-leb, eqb-false}
-use Rattle.rows.specs.Notation.{if◌then◌else◌, ◌is_one_of◌}
+use Rattle.rows.specs.Notation.{◌is_one_of◌}
 use Rattle.rows.specs.Languages.{Fortran}
 use Rattle.rows.specs.Laws.Tests.{and_false}
 use Rattle.type_nodes.specs.Sets.{c_family_operators, fortran_operators, is_binary_or_assignment_operator}
