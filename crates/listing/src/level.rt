@@ -2,7 +2,7 @@
 
 ghost use Rattle.std.specs.Prelude.{◌≡◌, ◌*◌, ◌≤◌, length};
 ghost use Rattle.reader.specs.Nodes.{Recorded, node_width};
-ghost use Rattle.listing.specs.Listing.{makes_level, stands_below, level as level-of};
+ghost use Rattle.listing.specs.Listing.{makes_level, stands_below, level as level_of};
 
 use reader::nodes;
 use reader::nodes::{node_extent, node_kind};
@@ -31,7 +31,7 @@ fn stands_below(tree: &[u32], above: usize, node: usize) -> bool
 
 pub fn level(tree: &[u32], node: usize) -> usize
     requires { node_width * node ≤ length tree.now }
-    ensures { result ≡ level-of tree.now node }
+    ensures { result ≡ level_of tree.now node }
 {
     let mut count = 0;
     let mut above = 0;

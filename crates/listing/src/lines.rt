@@ -3,7 +3,7 @@
 ghost use Rattle.std.specs.Prelude.{◌≡◌, ◌+◌, ◌*◌, ◌≤◌, length};
 ghost use Rattle.text.specs.Text.{Appended};
 ghost use Rattle.reader.specs.Nodes.{Recorded, node_width};
-ghost use Rattle.listing.specs.Listing.{accepted_line, accepted_line_length, letter as letter-of, listed, listing, listing_length, node_line, node_line_length, node_lines, refused_line, refused_line_length};
+ghost use Rattle.listing.specs.Listing.{accepted_line, accepted_line_length, letter as letter_of, listed, listing, listing_length, node_line, node_line_length, node_lines, refused_line, refused_line_length};
 
 use crate::level::level;
 use reader::nodes;
@@ -25,7 +25,7 @@ pub const REFUSED_LINE_LENGTH: usize = OPENING_LENGTH
 pub const NODE_LINE_LENGTH: usize = LONGEST_ENDED + 1 + 1 + LONGEST_ENDED + LONGEST_ENDED;
 
 fn letter(kind: u32) -> u8
-    ensures { result ≡ letter-of kind }
+    ensures { result ≡ letter_of kind }
 {
     match kind {
         nodes::TOKEN_NODE => b'T',

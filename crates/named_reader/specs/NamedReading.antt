@@ -13,7 +13,7 @@
 --   3 `<`   b is a name: list 3, behind T 2, in list 1; nothing one step
 --   4 `c`   list 3 in list 1; T 4                               one step
 --   5 `>>`  closes list 3, and list 1 by its second half        no step
--- So `named-reading` is got (T 0, L 1 above A 2 above (T 2, L 3 above A 4 above T 4)) at 6, no half, 5 steps.
+-- So `named_reading` is got (T 0, L 1 above A 2 above (T 2, L 3 above A 4 above T 4)) at 6, no half, 5 steps.
 use Rattle.std.specs.Prelude.{ℕ, zero, suc, Bool, false, ◌&&◌, List, [], ◌∷◌, length, get_or, ltb, eqb, if◌then◌else◌}
 use Rattle.rows.specs.Kinds.{Comma, Less, Greater, ShiftRight}
 use Rattle.rows.specs.declared.answer.Delimiter.{Delimiter}

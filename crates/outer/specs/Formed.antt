@@ -25,7 +25,7 @@ NodeFormed a_node behind_word b = 0 < count b
 
 -- Of a row with these token kinds:
 module _ (kinds : List ℕ) where
-  -- All nodes are so, at this level and below; `behind-word`: a word stands before the level's first node.
+  -- All nodes are so, at this level and below; `behind_word`: a word stands before the level's first node.
   abbrev pub Formed : (behind_word : Bool) → Nodes → Type 0
   Formed behind_word none = Unit {0}
   Formed behind_word (node k i b x) = NodeFormed k behind_word b × Formed false b × Formed (is_word kinds k i) x

@@ -1,4 +1,4 @@
--- What the contracts of the reader's code say. Each function is told in the terms of the reading's definition under the steps left (`reading-within`).
+-- What the contracts of the reader's code say. Each function is told in the terms of the reading's definition under the steps left (`reading_within`).
 -- Left free: the numbers of the lent buffer behind the nodes that were read, and the whole buffer after a refusal, a failed try or refusal 25.
 -- Assumes nothing.
 use Rattle.std.specs.Prelude.{ℕ, suc, ◌+◌, ◌-◌, ◌*◌, ◌≤◌, ◌<◌, ◌≡◌, ◌⊎◌, ◌≢◌, Bool, true, false, List, ◌∷◌, length, take, drop, leb, eqb}

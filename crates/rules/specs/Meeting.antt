@@ -1,4 +1,4 @@
--- Overlap as code finds it, item by item: what contracts say. That it is the same: `overlap-found`, `overlap-meets` (specs/Laws/Overlaps.antt).
+-- Overlap as code finds it, item by item: what contracts say. That it is the same: `overlap_found`, `overlap_meets` (specs/Laws/Overlaps.antt).
 -- Assumes nothing.
 use Rattle.std.specs.Prelude.{Bool, true, ◌&&◌, ◌||◌, List, [], ◌∷◌}
 use Rattle.rows.specs.Words.{same_exactly}

@@ -41,7 +41,7 @@ declarator_end (declarator_state saw_operator saw_reference) = saw_operator
 
 module _ (lang : ℕ) where
   -- `validate_c_family_type` at parentheses, by `preceding_identifier`. They start the declarator, but not after `_BitInt`. The last line is the two
-  -- arms `_`: `declarator-or-parameters` tells them apart.
+  -- arms `_`: `declarator_or_parameters` tells them apart.
   unfoldable pub c_family_group : (lw : ℕ) → TypeState → Move TypeState
   unfolding ◌is_one_of◌ typeof_words inside_if
   c_family_group lw (type_state saw_type_word declarator_started saw_reference) =

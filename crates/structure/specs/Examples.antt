@@ -179,7 +179,7 @@ character_star : judged Fortran (name ∷ token Star ∷ token LeftParen ∷ tok
 unfolding judged
 character_star = refl
 
--- `logical(a.neqv. b)`
+-- `logical(a .neqv. b)`
 neqv : judged Fortran (name ∷ token LeftParen ∷ name ∷ token LogicalNeqv ∷ name ∷ token RightParen ∷ []) ≡ holds 7
 unfolding judged
 neqv = refl

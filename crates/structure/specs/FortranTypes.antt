@@ -37,7 +37,7 @@ pub data FortranState : Type 0 where
 unfoldable pub fortran_end : FortranState → Bool
 fortran_end (fortran_state saw_word saw_selector) = saw_word
 
--- `validate_fortran_type` at a node of shape s; `last-integer`: one node follows, an integer.
+-- `validate_fortran_type` at a node of shape s; `last_integer`: one node follows, an integer.
 unfoldable pub fortran_node : (s : ℕ) (last_integer : Bool) → FortranState → Move FortranState
 fortran_node s last_integer (fortran_state saw_word saw_selector) =
     if eqb s Identifier then on (fortran_state true saw_selector)

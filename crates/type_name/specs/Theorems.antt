@@ -47,7 +47,7 @@ promised = Laws.promised
 pub starred_rows : StarredRows
 starred_rows = StarredRows.starred_rows
 
--- ---- total: every file and every buffer has one answer, since `answer` and `final-buffer` are functions of them
+-- ---- total: every file and every buffer has one answer, since `answer` and `final_buffer` are functions of them
 
 -- Every refusal has a number of document 01's table or one of document 02's new ones, which this entry does not give,
 pub listed : (e : TypeNameError) → T ((refusal_of e).number is_one_of numbers)

@@ -3,7 +3,7 @@
 use Rattle.std.specs.Prelude.{Bool, true, false}
 
 -- What is asked of the nodes below a node. The three that ask for an expression differ where there is no node: `expression` enters
--- `validate_expression`, which fails after its one step; `some-expression` fails and `optional-expression` passes, both without a step.
+-- `validate_expression`, which fails after its one step; `some_expression` fails and `optional_expression` passes, both without a step.
 pub data Test : Type 0 where
   type_name expression some_expression optional_expression type_or_expression array_bound declarator arguments selectors : Test
   declarator_or_parameters : (saw_type_word : Bool) → Test

@@ -1,5 +1,5 @@
 -- Sets of kinds by ranges: document 02, C-13: "decide each by ranges over the kind number, no more of them than the set has runs of neighbouring kinds".
--- What is-binary-or-assignment-operator means stands in Sets.antt and is not said again here: that these ranges decide it is proved (Theorems.antt).
+-- What is_binary_or_assignment_operator means stands in Sets.antt and is not said again here: that these ranges decide it is proved (Theorems.antt).
 -- Assumes nothing.
 use Rattle.std.specs.Prelude.{ℕ, zero, suc, ◌+◌, Bool, false, not, ◌&&◌, ◌||◌, List, [], ◌∷◌, eqb, leb, if◌then◌else◌}
 use Rattle.rows.specs.Languages.{Fortran}

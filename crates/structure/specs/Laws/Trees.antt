@@ -1,5 +1,5 @@
 -- From a row that was read to its check: the records of its tree stand in the buffer.
--- That a verdict depends on a word only through its number, and not on the standard, is in the type of `validate-structured-syntax`: it takes word
+-- That a verdict depends on a word only through its number, and not on the standard, is in the type of `validate_structured_syntax`: it takes word
 -- numbers and no standard.
 -- Assumes nothing.
 use Rattle.std.specs.Prelude.{ℕ, suc, ◌+◌, ◌*◌, ◌<◌, ◌≡◌, refl, Bool, List, [], ◌∷◌, ◌++◌, length, get_or, drop}

@@ -1,5 +1,5 @@
 -- Every list of bytes and every buffer has one answer, its number is one of document 01's, and a refused answer's buffer is as document 01 says.
--- (That there is one answer is in the types: `answer` and `final-buffer` are functions of the file and the buffer, defined everywhere.)
+-- (That there is one answer is in the types: `answer` and `final_buffer` are functions of the file and the buffer, defined everywhere.)
 -- Assumes nothing.
 use Rattle.std.specs.Prelude.{ℕ, ◌≤◌, ◌≡◌, ◌⊎◌, List, [], ◌∷◌, length, T, eqb}
 use Rattle.std.proofs.Common.{ap, inr, arith}

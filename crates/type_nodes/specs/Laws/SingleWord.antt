@@ -17,7 +17,7 @@ use Rattle.type_nodes.specs.Laws.Bounds.{all_pass, one_passes}
 abbrev Agree : (a b : List ℕ) → Type 0
 Agree a b = (w : ℕ) → is_c_builtin_type_word w ≡ true → times w a ≡ times w b
 
--- `validate-c-builtin-combination` by what it asks of the counts.
+-- `validate_c_builtin_combination` by what it asks of the counts.
 abbrev tests : (over s u sh l : Bool) (bases : ℕ) (v : Bool) (all : ℕ) (f d : Bool) (longs : ℕ) (c : Bool) → Bool
 tests over s u sh l bases v all f d longs c =
     not over && not (s && u) && not (sh && l) && leb bases 1 && not (v && not (eqb all 1)) && not (f && (sh || l || s || u))
