@@ -1,13 +1,12 @@
 -- The two conversions: document 02, C-14 and C-16.
 -- Assumes nothing.
-use Rattle.std.specs.Prelude.{ℕ, ◌^◌, Bool, false, ◌||◌, List, [], ◌∷◌, ◌++◌, length, drop, leb, ltb, if◌then◌else◌}
+use Rattle.rows.specs.declared.answer.TypeNameError.{TypeNameError}
+use Rattle.std.specs.Prelude.{ℕ, ◌^◌, Bool, false, ◌||◌, List, [], ◌∷◌, ◌++◌, length, drop, leb, ltb, if◌then◌else◌, Err, Ok, Result}
 use Rattle.rows.specs.Format.{format, old_format}
 use Rattle.rows.specs.declared.answer.TypeNameError.TheVariants.{FileTooLong, ShortBuffer, OffsetOver32Bits}
 use Rattle.type_name.specs.FileRow.{Outcome, untouched, passes, on_pass}
 use Rattle.convert.specs.Standards.{widened_standard, narrowed_standard}
 use Rattle.convert.specs.Fields.{TokenFields, Fields, with_standard, fields_of, file_bytes}
-use Rattle.convert.specs.declared.entry.ConvertAnswer.{ConvertAnswer}
-use Rattle.convert.specs.declared.entry.ConvertAnswer.TheVariants.{Converted, Refused}
 
 -- C-16: "the converter from old files writes 254 where it finds 255".
 abbrev pub widened_fields : Fields → Fields
@@ -59,9 +58,9 @@ unfolding on_pass narrowed with_output
 narrow_outcome file room = on_pass (narrowed file) λ bytes. with_output room bytes
 
 -- How many bytes, or the refusal.
-unfoldable pub convert_answer : Outcome (List ℕ) → ConvertAnswer
-convert_answer (untouched e) = Refused e
-convert_answer (passes bytes) = Converted (length bytes)
+unfoldable pub convert_answer : Outcome (List ℕ) → Result ℕ TypeNameError
+convert_answer (untouched e) = Err e
+convert_answer (passes bytes) = Ok (length bytes)
 
 -- C-11: ".. no refusal touches it; bytes past the output stay".
 unfoldable pub output_in : (before : List ℕ) → Outcome (List ℕ) → List ℕ

@@ -1,21 +1,24 @@
 -- What the parts of a conversion say, in the words of its definitions.
 -- Assumes nothing.
-use Rattle.std.specs.Prelude.{ℕ, ◌+◌, ◌≤◌, ◌<◌, ◌^◌, ◌≡◌, not, List, [], length}
+use Rattle.convert.specs.declared.check.Sound.{Sound}
+use Rattle.rows.specs.declared.answer.TypeNameError.{TypeNameError}
+use Rattle.std.specs.Prelude.{ℕ, ◌+◌, ◌≤◌, ◌<◌, ◌^◌, ◌≡◌, not, List, [], length, Err, Result, Ok, Bool}
 use Rattle.rows.specs.Format.{head_length, most_tokens, token_length}
 use Rattle.rows.specs.declared.format.Format.{Format}
-use Rattle.rows.specs.declared.token.TokenRecord.TheVariants.{Formed}
-use Rattle.rows.specs.Records.{found, kind_at, length_at, records_from, span_start_at, span_end_at, word_at}
+use Rattle.rows.specs.Records.{found, kind_at, length_at, records_from, span_start_at, span_end_at, word_at, formed}
 use Rattle.type_name.specs.FileRow.{Outcome, untouched, passes, on_pass, row_read}
 use Rattle.convert.specs.Fields.{TokenFields, Fields, with_standard, fields_with, fields_of, records_bytes, file_bytes}
 use Rattle.convert.specs.Conversions.{over_32_bits}
-use Rattle.convert.specs.declared.check.Checked.{Checked}
-use Rattle.convert.specs.declared.check.Checked.TheVariants.{Sound, Refused}
 
--- What a check tells of a file's fields: how many tokens, and whether all spans end below 2^32.
-unfoldable pub checked_in : Outcome Fields → Checked
+-- A file that passes: how many tokens it has, and whether all spans end below 2^32.
+abbrev pub sound : (count : ℕ) (narrow : Bool) → Result Sound TypeNameError
+sound count narrow = Ok (record { count = count; narrow = narrow })
+
+-- What a check tells of a file's fields.
+unfoldable pub checked_in : Outcome Fields → Result Sound TypeNameError
 unfolding over_32_bits
-checked_in (untouched e) = Refused e
-checked_in (passes c) = Sound (length c.tokens) (not (over_32_bits c.tokens))
+checked_in (untouched e) = Err e
+checked_in (passes c) = sound (length c.tokens) (not (over_32_bits c.tokens))
 
 -- The fields of a file whose head is formed.
 unfoldable pub row_fields : (f : Format) (file : List ℕ) → Outcome Fields
@@ -28,7 +31,7 @@ fields_there f file at = record { kind = kind_at f file at; start = span_start_a
 
 -- A token record stands at a byte offset, and the output has room for it in another format behind its first `out` bytes.
 pub record RecordReady (from to : Format) (file : List ℕ) (at : ℕ) (output : List ℕ) (out : ℕ) : Type 0 where
-  pub formed : found from file at ≡ Formed (kind_at from file at) (length_at from file at)
+  pub formed : found from file at ≡ formed (kind_at from file at) (length_at from file at)
   pub room : out + (token_length to + length (word_at from file at)) ≤ length output
 
 -- The file of a sound file's fields in another format, with this number for the standard.

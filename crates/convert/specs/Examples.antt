@@ -1,11 +1,10 @@
 -- Computed examples of this crate's definitions, worked out from document 02 by hand, so that a wrong edit of one is refused here.
 -- Assumes nothing.
-use Rattle.std.specs.Prelude.{ℕ, ◌≡◌, refl, List, [], ◌∷◌, ◌++◌, map, length, replicate}
+use Rattle.rows.specs.Answer.{refused_with}
+use Rattle.std.specs.Prelude.{ℕ, ◌≡◌, refl, List, [], ◌∷◌, ◌++◌, map, length, replicate, None, Some}
 use Rattle.rows.specs.Format.{declared, meant, stands_for}
 use Rattle.rows.specs.Records.{little_endian, head, head_formed, head_with, records_from, to_end, tokens_from, after_record, before_tokens, found, well_formed, length_fits, word_fits, word_at, span_start_at, span_end_at, kind_at, length_at, in_range}
 use Rattle.rows.specs.Words.{bytes}
-use Rattle.rows.specs.declared.answer.Answer.TheVariants as Answer
-use Rattle.rows.specs.declared.head.Meaning.TheVariants.{Means, Unknown}
 use Rattle.text.specs.Text.{little_endian_bytes}
 use Rattle.type_name.specs.FileRow.{Outcome, untouched, passes}
 use Rattle.type_name.specs.AnswerNumbers.{answer_numbers}
@@ -111,7 +110,7 @@ unfolding returned_standard meant declared stands_for
 returned_numbers = refl
 
 -- Before, 255 meant C18, Cpp17 and Fortran2018, and 254 nothing.
-before : meant former_format 0 255 ∷ meant former_format 1 255 ∷ meant former_format 2 255 ∷ meant former_format 0 254 ∷ [] ≡ Means 3 ∷ Means 3 ∷ Means 5 ∷ Unknown ∷ []
+before : meant former_format 0 255 ∷ meant former_format 1 255 ∷ meant former_format 2 255 ∷ meant former_format 0 254 ∷ [] ≡ Some 3 ∷ Some 3 ∷ Some 5 ∷ None ∷ []
 unfolding meant declared stands_for
 before = refl
 
@@ -122,7 +121,7 @@ words many end =
 
 refusal_in : Outcome (List ℕ) → List ℕ
 unfolding answer_numbers
-refusal_in (untouched e) = answer_numbers (Answer.Refused e 0)
+refusal_in (untouched e) = answer_numbers (refused_with e 0)
 refusal_in (passes bs) = length bs ∷ []
 
 -- 246 of them: the old form has 11 and 246 times 267 bytes, 65,693, too many: 1, and 7 before that if an end is 2^32. With 245 it has 65,426.

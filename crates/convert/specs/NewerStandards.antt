@@ -1,13 +1,12 @@
 -- What document 02, C-16, says of rows and refusals in words.
 -- Assumes nothing.
-use Rattle.std.specs.Prelude.{ℕ, ◌≤◌, ◌<◌, ◌≡◌, true, ◌⊎◌, List, length}
+use Rattle.std.specs.Prelude.{ℕ, ◌≤◌, ◌<◌, ◌≡◌, true, ◌⊎◌, List, length, None, Some}
 use Rattle.rows.specs.Languages.{Fortran}
 use Rattle.rows.specs.Format.{format, archive_standards, declared}
 use Rattle.rows.specs.Records.{head_formed}
 use Rattle.rows.specs.declared.answer.Feature.{Feature}
 use Rattle.rows.specs.declared.answer.TypeNameError.TheVariants.{NotAvailableInProfile}
 use Rattle.rows.specs.declared.format.Format.{Format}
-use Rattle.rows.specs.declared.format.StandIn.TheVariants.{Nothing}
 use Rattle.reader.specs.Nodes.{Nodes}
 use Rattle.type_name.specs.FileRow.{passes, entry_outcome}
 use Rattle.type_name.specs.Answers.{RowAnswer, accepted, refused, row_answer, outcome}
@@ -24,8 +23,8 @@ former_format =
       span_width = format.span_width;
       file_limit = format.file_limit;
       greatest_flag = format.greatest_flag;
-      means_254 = Nothing;
-      means_255 = archive_standards;
+      means_254 = None;
+      means_255 = Some archive_standards;
     }
 
 -- "A row accepted before under 255 is accepted now with the same tree": whatever file was accepted, under 255 or another number, whatever the tree

@@ -1,6 +1,7 @@
 -- What document 02 says of the two conversions in words: C-14 and C-16.
 -- Assumes nothing.
-use Rattle.std.specs.Prelude.{ℕ, ◌≤◌, ◌<◌, ◌≡◌, ◌⊎◌, List, [], ◌∷◌, length}
+use Rattle.rows.specs.declared.answer.TypeNameError.{TypeNameError}
+use Rattle.std.specs.Prelude.{ℕ, ◌≤◌, ◌<◌, ◌≡◌, ◌⊎◌, List, [], ◌∷◌, length, Err, Ok, Result}
 use Rattle.rows.specs.Format.{format, old_format, meant}
 use Rattle.rows.specs.declared.format.Format.{Format}
 use Rattle.rows.specs.declared.answer.TypeNameError.TheVariants.{FileTooLong, ShortBuffer, OffsetOver32Bits}
@@ -13,8 +14,6 @@ use Rattle.convert.specs.Standards.{returned_standard}
 use Rattle.convert.specs.Fields.{TokenFields, Fields, fields_of, file_bytes}
 use Rattle.convert.specs.Conversions.{numbers_32, widened}
 use Rattle.convert.specs.SameRow.{Alike}
-use Rattle.convert.specs.declared.entry.ConvertAnswer.{ConvertAnswer}
-use Rattle.convert.specs.declared.entry.ConvertAnswer.TheVariants.{Converted, Refused}
 
 -- "A converted file gets the answer and tree its old file would get if still read": by every entry, its definition with the old file's format in
 -- `format`'s place, whatever the tree buffer's length and contents.
@@ -63,9 +62,9 @@ abbrev pub ExactlyIf : Type 0 → Type 0 → Type 0
 ExactlyIf A B = (A → B) × (B → A)
 
 -- What `narrow` answers to a file that passes 1 to 5 and whose old form has these fields, with an output of `room` bytes: 7, "before that 1", and 6 last.
-pub record NarrowSays (c : Fields) (room : ℕ) (a : ConvertAnswer) : Type 0 where
-  pub seven : ExactlyIf (a ≡ Refused OffsetOver32Bits) (SomeEndOver c.tokens)
-  pub one : (SomeEndOver c.tokens → ⊥) → ExactlyIf (a ≡ Refused FileTooLong) (old_format.file_limit < length (file_bytes old_format c))
-  pub six : (SomeEndOver c.tokens → ⊥) → length (file_bytes old_format c) ≤ old_format.file_limit → ExactlyIf (a ≡ Refused ShortBuffer) (room < length (file_bytes old_format c))
+pub record NarrowSays (c : Fields) (room : ℕ) (a : Result ℕ TypeNameError) : Type 0 where
+  pub seven : ExactlyIf (a ≡ Err OffsetOver32Bits) (SomeEndOver c.tokens)
+  pub one : (SomeEndOver c.tokens → ⊥) → ExactlyIf (a ≡ Err FileTooLong) (old_format.file_limit < length (file_bytes old_format c))
+  pub six : (SomeEndOver c.tokens → ⊥) → length (file_bytes old_format c) ≤ old_format.file_limit → ExactlyIf (a ≡ Err ShortBuffer) (room < length (file_bytes old_format c))
   pub accepted : (SomeEndOver c.tokens → ⊥) → length (file_bytes old_format c) ≤ old_format.file_limit → length (file_bytes old_format c) ≤ room
-      → a ≡ Converted (length (file_bytes old_format c))
+      → a ≡ Ok (length (file_bytes old_format c))

@@ -1,11 +1,10 @@
 -- What holds of the two conversions and of the numbers 254 and 255, for every file: document 02, C-14 and C-16. A file is the list of its bytes.
 -- Assumes nothing.
-use Rattle.std.specs.Prelude.{ℕ, ◌+◌, ◌*◌, ◌≤◌, ◌≡◌, ◌⊎◌, List, length, get_or}
+use Rattle.std.specs.Prelude.{ℕ, ◌+◌, ◌*◌, ◌≤◌, ◌≡◌, ◌⊎◌, List, length, get_or, Err}
 use Rattle.rows.specs.Languages.{C, Cpp, Fortran, C18, C23, Cpp17, Cpp23, Fortran2018, Fortran2023}
 use Rattle.rows.specs.Format.{format, old_format, at_language, at_standard, most_tokens, standard_254, standard_255, meant}
 use Rattle.rows.specs.Records.{head}
 use Rattle.rows.specs.declared.answer.TypeNameError.TheVariants.{UnknownProfile}
-use Rattle.rows.specs.declared.head.FileHead.TheVariants.{Refused}
 use Rattle.type_name.specs.FileRow.{passes}
 use Rattle.type_name.specs.Answers.{answer_of}
 use Rattle.convert.specs.Bytes.{AllBytes, with_byte}
@@ -92,10 +91,10 @@ archives = Standards.archives
 
 -- "Refusal 3 no longer covers 254": neither 254 nor 255 of a language that is known,
 pub refused_3 : (file : List ℕ) → AllBytes file
-    → ExactlyIf (head format file ≡ Refused UnknownProfile) (Passes1And2 format file × NoSuchProfile standard_254 (get_or file at_language 0) (get_or file at_standard 0))
+    → ExactlyIf (head format file ≡ Err UnknownProfile) (Passes1And2 format file × NoSuchProfile standard_254 (get_or file at_language 0) (get_or file at_standard 0))
 refused_3 = NewerStandards.refused_3
 
 -- "save in old files".
 pub refused_3_old : (file : List ℕ) → AllBytes file
-    → ExactlyIf (head old_format file ≡ Refused UnknownProfile) (Passes1And2 old_format file × NoSuchProfile standard_255 (get_or file at_language 0) (get_or file at_standard 0))
+    → ExactlyIf (head old_format file ≡ Err UnknownProfile) (Passes1And2 old_format file × NoSuchProfile standard_255 (get_or file at_language 0) (get_or file at_standard 0))
 refused_3_old = NewerStandards.refused_3_old

@@ -6,22 +6,22 @@ ghost use Rattle.convert.specs.ConvertSays.{checked_in, row_fields};
 
 use rows::answer::TypeNameError;
 use rows::format::Format;
-use rows::head::{FileHead, HEAD_LENGTH, read_head};
+use rows::head::{HEAD_LENGTH, read_head};
 use rows::row::MOST_TOKENS;
 use rows::token::{TokenRecord, span, token_at};
 
-// `narrow`: every span ends below 2^32.
+// A file that passes: how many tokens it has, and whether every span ends below 2^32.
 #[derive(Clone, Copy)]
-pub enum Checked {
-    Sound { count: usize, narrow: bool },
-    Refused(TypeNameError),
+pub struct Sound {
+    pub count: usize,
+    pub narrow: bool,
 }
 
 // A span's end from here on does not fit four bytes.
 const FOUR_BYTES: usize = 4294967296;
 
 // Refusals 5 and 4.
-fn check_records(format: Format, file: &[u8]) -> Checked
+fn check_records(format: Format, file: &[u8]) -> Result<Sound, TypeNameError>
     requires { length file.now < 2 ^ 32 }
     ensures { result ≡ checked_in (row_fields format file.now) }
 {
@@ -30,28 +30,25 @@ fn check_records(format: Format, file: &[u8]) -> Checked
     let mut narrow = true;
     while at < file.len() {
         if count == MOST_TOKENS {
-            return Checked::Refused(TypeNameError::TooManyRecords);
+            return Err(TypeNameError::TooManyRecords);
         }
         let found = token_at(format, file, at);
-        let TokenRecord::Formed { kind: _, length } = found else {
-            return Checked::Refused(TypeNameError::InvalidRecord { offset: at as u32 });
+        let Some(TokenRecord { kind: _, length }) = found else {
+            return Err(TypeNameError::InvalidRecord { offset: at as u32 });
         };
         let span = span(format, file, at);
         narrow = narrow & (span.end < FOUR_BYTES);
         count += 1;
         at += length;
     }
-    Checked::Sound { count, narrow }
+    Ok(Sound { count, narrow })
 }
 
 // The places File and Records of document 01's table, by one walk of the file.
-pub fn check_file(format: Format, file: &[u8]) -> Checked
+pub fn check_file(format: Format, file: &[u8]) -> Result<Sound, TypeNameError>
     requires { format.file_limit < 2 ^ 32 }
     ensures { result ≡ checked_in (fields_of format file.now) }
 {
-    let read = read_head(format, file);
-    match read {
-        FileHead::Refused(error) => Checked::Refused(error),
-        FileHead::Formed(_) => check_records(format, file),
-    }
+    read_head(format, file)?;
+    check_records(format, file)
 }

@@ -5,19 +5,15 @@ ghost use Rattle.convert.specs.Fields.{fields_of};
 ghost use Rattle.convert.specs.Conversions.{convert_answer, narrow_outcome, output_in, widen_outcome, with_output};
 ghost use Rattle.convert.specs.ConvertSays.{Counted, bytes_in};
 
-use crate::check::{Checked, check_file};
+use crate::check::{Sound, check_file};
 use crate::standards::{narrowed_standard, widened_standard};
 use crate::write::put_file;
 use rows::answer::TypeNameError;
 use rows::format::{Format, current, old, token_length};
 use rows::head::{AT_LANGUAGE, AT_STANDARD};
 
-// `bytes`: how many stand in front of the output.
-#[derive(Clone, Copy)]
-pub enum ConvertAnswer {
-    Converted { bytes: u32 },
-    Refused(TypeNameError),
-}
+// How many bytes stand in front of the output.
+pub type ConvertAnswer = Result<u32, TypeNameError>;
 
 // A sound file in another format, its head with this standard, where it has so many bytes: refusal 6, or they stand in the output.
 fn hand_over(
@@ -33,12 +29,10 @@ fn hand_over(
     ensures written { output.new ≡ output_in output.old (with_output (length output.old) (bytes_in to standard (fields_of from file.now))) }
 {
     if output.len() < bytes {
-        return ConvertAnswer::Refused(TypeNameError::ShortBuffer);
+        return Err(TypeNameError::ShortBuffer);
     }
     let written = put_file(from, to, standard, file, output);
-    ConvertAnswer::Converted {
-        bytes: written as u32,
-    }
+    Ok(written as u32)
 }
 
 // A file of document 01's format in the format that every entry reads.
@@ -48,15 +42,10 @@ pub fn widen(file: &[u8], output: &mut [u8]) -> ConvertAnswer
 {
     let from = old();
     let to = current();
-    let checked = check_file(from, file);
-    match checked {
-        Checked::Refused(error) => ConvertAnswer::Refused(error),
-        Checked::Sound { count, narrow: _ } => {
-            let standard = widened_standard(file[AT_STANDARD]);
-            let more = token_length(to) - token_length(from);
-            hand_over(from, to, standard, file, file.len() + more * count, output)
-        }
-    }
+    let Sound { count, narrow: _ } = check_file(from, file)?;
+    let standard = widened_standard(file[AT_STANDARD]);
+    let more = token_length(to) - token_length(from);
+    hand_over(from, to, standard, file, file.len() + more * count, output)
 }
 
 // The inverse: refusals 7 and 1 come once all records pass 4.
@@ -66,21 +55,16 @@ pub fn narrow(file: &[u8], output: &mut [u8]) -> ConvertAnswer
 {
     let from = current();
     let to = old();
-    let checked = check_file(from, file);
-    match checked {
-        Checked::Refused(error) => ConvertAnswer::Refused(error),
-        Checked::Sound { count, narrow } => {
-            let standard = narrowed_standard(file[AT_LANGUAGE], file[AT_STANDARD]);
-            let less = token_length(from) - token_length(to);
-            let bytes = file.len() - less * count;
-            let limit = to.file_limit as usize;
-            if !narrow {
-                return ConvertAnswer::Refused(TypeNameError::OffsetOver32Bits);
-            }
-            if limit < bytes {
-                return ConvertAnswer::Refused(TypeNameError::FileTooLong);
-            }
-            hand_over(from, to, standard, file, bytes, output)
-        }
+    let Sound { count, narrow } = check_file(from, file)?;
+    let standard = narrowed_standard(file[AT_LANGUAGE], file[AT_STANDARD]);
+    let less = token_length(from) - token_length(to);
+    let bytes = file.len() - less * count;
+    let limit = to.file_limit as usize;
+    if !narrow {
+        return Err(TypeNameError::OffsetOver32Bits);
     }
+    if limit < bytes {
+        return Err(TypeNameError::FileTooLong);
+    }
+    hand_over(from, to, standard, file, bytes, output)
 }

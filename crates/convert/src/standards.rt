@@ -4,7 +4,7 @@ ghost use Rattle.std.specs.Prelude.{◌≡◌};
 ghost use Rattle.convert.specs.Standards.{narrowed_standard, own_number, widened_standard};
 
 use rows::format::current;
-use rows::head::{Meaning, STANDARD_254, STANDARD_255, meant_standard};
+use rows::head::{STANDARD_254, STANDARD_255, meant_standard};
 
 // In a file that is widened.
 pub fn widened_standard(standard: u8) -> u8
@@ -16,16 +16,6 @@ pub fn widened_standard(standard: u8) -> u8
     standard
 }
 
-// A known standard has a number; an unknown one was refused before.
-fn own_number(meaning: Meaning) -> u8
-    ensures { result ≡ own_number meaning }
-{
-    match meaning {
-        Meaning::Means(standard) => standard,
-        Meaning::Unknown => STANDARD_255,
-    }
-}
-
 // In a file that is narrowed.
 pub fn narrowed_standard(language: u8, standard: u8) -> u8
     ensures { result ≡ narrowed_standard language standard }
@@ -34,8 +24,8 @@ pub fn narrowed_standard(language: u8, standard: u8) -> u8
         return STANDARD_255;
     }
     if standard == STANDARD_255 {
-        let meaning = meant_standard(current(), language, standard);
-        return own_number(meaning);
+        // A known standard has a number; an unknown one was refused before.
+        return meant_standard(current(), language, standard).unwrap_or(STANDARD_255);
     }
     standard
 }

@@ -1,9 +1,9 @@
 -- What `type_name_overlap` promises.
 -- Assumes nothing.
+use Rattle.rule_answers.specs.OverlapAnswer.{OverlapAnswer}
 use Rattle.std.specs.Prelude.{ℕ, ◌≡◌, List}
 use Rattle.rule_answers.specs.OverlapAnswers.{OverlapTold}
 use Rattle.rule_answers.specs.AnswerNumbers.{overlap_numbers, overlap_code}
-use Rattle.rule_answers.specs.declared.overlap.OverlapAnswer.{OverlapAnswer}
 use Rattle.exports.specs.Numbers.{put_front}
 
 -- The answer is told as numbers: to a table after a pair of numbers, with a lent buffer that held `before` and holds `after` in the end.

@@ -8,23 +8,17 @@ ghost use Rattle.convert.specs.AnswerNumbers.{convert_code, convert_numbers};
 ghost use Rattle.exports.specs.Numbers.{put_front};
 
 use convert::entry::ConvertAnswer;
-use rows::answer::{Answer, refusal_of};
-use rule_answers::matching::MatchAnswer;
+use rows::answer::{Accepted, Answer, Refused, refusal_of};
+use rule_answers::matching::{MatchAnswer, Matched};
 use rule_answers::overlap::OverlapAnswer;
-use type_list::answer::ListAnswer;
+use type_list::answer::{ListAccepted, ListAnswer, ListRefused};
 
 // As many of `numbers` as `array` has room for.
 pub fn put_front(array: &mut [u32], numbers: &[u32])
     ensures { array.new ≡ put_front numbers.now array.old }
 {
-    let mut i = 0;
-    while i < numbers.len() {
-        if array.len() <= i {
-            return;
-        }
-        array[i] = numbers[i];
-        i += 1;
-    }
+    let room = array.len().min(numbers.len());
+    array[..room].copy_from_slice(&numbers[..room]);
 }
 
 // Puts the answer's numbers, and returns 0 if it is accepted, else the refusal's number.
@@ -33,12 +27,12 @@ pub fn put_answer(array: &mut [u32], answer: Answer) -> u32
     ensures written { array.new ≡ put_front (answer_numbers answer) array.old }
 {
     match answer {
-        Answer::Accepted { nodes, steps } => {
+        Ok(Accepted { nodes, steps }) => {
             let numbers = [0, nodes, steps, 0];
             put_front(array, &numbers);
             0
         }
-        Answer::Refused { error, steps } => {
+        Err(Refused { error, steps }) => {
             let refusal = refusal_of(error);
             let numbers = [refusal.number, refusal.token, refusal.detail, steps];
             put_front(array, &numbers);
@@ -53,19 +47,18 @@ pub fn put_match(array: &mut [u32], answer: MatchAnswer) -> u32
     ensures written { array.new ≡ put_front (match_numbers answer) array.old }
 {
     match answer {
-        MatchAnswer::Matched {
-            nodes,
-            steps,
-            place,
-        } => {
+        Ok(
+            Matched {
+                nodes,
+                steps,
+                place,
+            },
+        ) => {
             let numbers = [0, nodes, steps, place];
             put_front(array, &numbers);
             0
         }
-        MatchAnswer::Refused { error, steps } => put_answer(
-            array,
-            Answer::Refused { error, steps },
-        ),
+        Err(refused) => put_answer(array, Err(refused)),
     }
 }
 
@@ -75,21 +68,17 @@ pub fn put_overlap(array: &mut [u32], answer: OverlapAnswer) -> u32
     ensures written { array.new ≡ put_front (overlap_numbers answer) array.old }
 {
     match answer {
-        OverlapAnswer::Overlap {
-            earlier,
-            later,
-            bytes,
-        } => {
-            let numbers = [0, earlier, later, bytes];
+        Ok(Some(overlap)) => {
+            let numbers = [0, overlap.earlier, overlap.later, overlap.bytes];
             put_front(array, &numbers);
             0
         }
-        OverlapAnswer::NoFurther => {
+        Ok(None) => {
             let numbers = [0, 0, 0, 0];
             put_front(array, &numbers);
             0
         }
-        OverlapAnswer::Refused(error) => put_answer(array, Answer::Refused { error, steps: 0 }),
+        Err(error) => put_answer(array, Err(Refused::from(error))),
     }
 }
 
@@ -99,16 +88,18 @@ pub fn put_list(array: &mut [u32], answer: ListAnswer) -> u32
     ensures written { array.new ≡ put_front (list_numbers answer) array.old }
 {
     match answer {
-        ListAnswer::Accepted {
-            parts,
-            nodes,
-            steps,
-        } => {
+        Ok(
+            ListAccepted {
+                parts,
+                nodes,
+                steps,
+            },
+        ) => {
             let numbers = [0, nodes, steps, 0, parts];
             put_front(array, &numbers);
             0
         }
-        ListAnswer::Refused { error, steps, part } => {
+        Err(ListRefused { error, steps, part }) => {
             let refusal = refusal_of(error);
             let numbers = [refusal.number, refusal.token, refusal.detail, steps, part];
             put_front(array, &numbers);
@@ -123,11 +114,11 @@ pub fn put_conversion(array: &mut [u32], answer: ConvertAnswer) -> u32
     ensures written { array.new ≡ put_front (convert_numbers answer) array.old }
 {
     match answer {
-        ConvertAnswer::Converted { bytes } => {
+        Ok(bytes) => {
             let numbers = [0, bytes, 0, 0];
             put_front(array, &numbers);
             0
         }
-        ConvertAnswer::Refused(error) => put_answer(array, Answer::Refused { error, steps: 0 }),
+        Err(error) => put_answer(array, Err(Refused::from(error))),
     }
 }

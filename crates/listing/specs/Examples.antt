@@ -1,11 +1,11 @@
 -- Document 01's example of a listing, from its node records, and the program's own limit.
 -- Assumes nothing.
+use Rattle.rows.specs.Answer.{accepted_with, refused_with}
 use Rattle.std.specs.Prelude.{◌≡◌, refl, List, [], ◌∷◌, ℕ, replicate}
 use Rattle.rows.specs.Notation.{◌is_one_of◌}
 use Rattle.rows.specs.Words.{bytes}
 use Rattle.rows.specs.Records.{head, head_formed, little_endian}
 use Rattle.rows.specs.declared.answer.TypeNameError.TheVariants.{NoTypeName}
-use Rattle.rows.specs.declared.answer.Answer.TheVariants.{Accepted, Refused}
 use Rattle.text.specs.Text.{decimal, ended, last_digit, last_digits}
 use Rattle.reader.specs.Nodes.{number}
 use Rattle.type_name.specs.Answers.{answer}
@@ -16,11 +16,11 @@ use Rattle.listing.specs.Listing.{listing, accepted_line, refused_line, listed, 
 lane : List ℕ
 lane = 0 ∷ 0 ∷ 1 ∷ 3 ∷ 1 ∷ 8 ∷ 4 ∷ 2 ∷ 7 ∷ 1 ∷ 2 ∷ 6 ∷ 0 ∷ 3 ∷ 1 ∷ 3 ∷ 4 ∷ 3 ∷ 4 ∷ 5 ∷ 2 ∷ 0 ∷ 5 ∷ 1 ∷ 0 ∷ 7 ∷ 1 ∷ 0 ∷ 9 ∷ 1 ∷ 0 ∷ 0 ∷ 0 ∷ []
 
-accepted : listing (Accepted 10 8) lane ≡ bytes "ok 10 8\n0 T 0 1\n0 L 1 8\n1 A 2 7\n1 G 2 6\n2 T 3 1\n2 L 4 3\n3 A 5 2\n3 T 5 1\n2 T 7 1\n0 T 9 1\n"
+accepted : listing (accepted_with 10 8) lane ≡ bytes "ok 10 8\n0 T 0 1\n0 L 1 8\n1 A 2 7\n1 G 2 6\n2 T 3 1\n2 L 4 3\n3 A 5 2\n3 T 5 1\n2 T 7 1\n0 T 9 1\n"
 unfolding listing accepted_line listed node_lines node_line level levels_of stands_below makes_level letter lane number ◌is_one_of◌ bytes ended decimal last_digits last_digit
 accepted = refl
 
-refused : listing (Refused NoTypeName 14) [] ≡ bytes "no 30 65535 0 14\n"
+refused : listing (refused_with NoTypeName 14) [] ≡ bytes "no 30 65535 0 14\n"
 unfolding listing refused_line bytes ended decimal last_digits last_digit
 refused = refl
 

@@ -1,8 +1,8 @@
 -- What `listing` prints for a file: document 01's answer to it and the tree buffer that it leaves, as text.
 -- Assumes nothing.
+use Rattle.rows.specs.Answer.{refused_with}
 use Rattle.std.specs.Prelude.{ℕ, ◌+◌, ◌*◌, List, length, replicate, ltb, if◌then◌else◌}
 use Rattle.rows.specs.Format.{most_tokens}
-use Rattle.rows.specs.declared.answer.Answer.TheVariants.{Refused}
 use Rattle.rows.specs.declared.answer.TypeNameError.TheVariants.{FileTooLong}
 use Rattle.reader.specs.Nodes.{numbers_per_token}
 use Rattle.type_name.specs.Answers.{answer, final_buffer}
@@ -24,5 +24,5 @@ tree_length = numbers_per_token * most_tokens
 unfoldable pub file_listing : List ℕ → List ℕ
 file_listing file =
     let tree : List ℕ = replicate tree_length 0 in
-    if ltb listing_limit (length file) then listing (Refused FileTooLong 0) tree
+    if ltb listing_limit (length file) then listing (refused_with FileTooLong 0) tree
     else listing (answer file tree_length) (final_buffer file tree)

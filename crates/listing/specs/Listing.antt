@@ -1,12 +1,11 @@
 -- What the program `listing` prints: document 01, end of "Rows worked out".
 -- Assumes nothing.
-use Rattle.std.specs.Prelude.{ℕ, zero, suc, ◌+◌, ◌*◌, ◌/◌, min, Bool, ◌&&◌, List, [], ◌∷◌, ◌++◌, length, get_or, ltb, if◌then◌else◌}
+use Rattle.rows.specs.Answer.{Answer}
+use Rattle.std.specs.Prelude.{ℕ, zero, suc, ◌+◌, ◌*◌, ◌/◌, min, Bool, ◌&&◌, List, [], ◌∷◌, ◌++◌, length, get_or, ltb, if◌then◌else◌, Err, Ok}
 use Rattle.rows.specs.Notation.{◌is_one_of◌}
 use Rattle.rows.specs.Words.{bytes}
 use Rattle.rows.specs.Refusals.{refusal_of}
 use Rattle.rows.specs.declared.answer.Refusal.{Refusal}
-use Rattle.rows.specs.declared.answer.Answer.{Answer}
-use Rattle.rows.specs.declared.answer.Answer.TheVariants.{Accepted, Refused}
 use Rattle.reader.specs.Nodes.{number, g_node, b_node, l_node, node_width, kind_of, token_of, extent_of}
 use Rattle.text.specs.Text.{ended, longest_ended}
 
@@ -68,8 +67,8 @@ listed nodes tree = min nodes (length tree / node_width)
 
 -- An answer and the tree buffer, as text.
 unfoldable pub listing : Answer → (tree : List ℕ) → List ℕ
-listing (Accepted nodes steps) tree = accepted_line nodes steps ++ node_lines tree (listed nodes tree)
-listing (Refused e steps) tree = refused_line (refusal_of e) steps
+listing (Ok a) tree = accepted_line a.nodes a.steps ++ node_lines tree (listed a.nodes tree)
+listing (Err r) tree = refused_line (refusal_of r.error) r.steps
 
 -- ---- how long lines get
 

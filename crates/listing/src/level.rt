@@ -34,12 +34,10 @@ pub fn level(tree: &[u32], node: usize) -> usize
     ensures { result ≡ level_of tree.now node }
 {
     let mut count = 0;
-    let mut above = 0;
-    while above < node {
+    for above in 0..node {
         if stands_below(tree, above, node) {
             count += 1;
         }
-        above += 1;
     }
     count
 }

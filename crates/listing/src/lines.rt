@@ -1,15 +1,16 @@
-// The lines of a listing. Each function puts its text behind the first `at` bytes and returns how many bytes there are then.
+// The lines of a listing. No `Display`: `put_listing` says each byte of a text in a lent array, and there is no heap.
 
 ghost use Rattle.std.specs.Prelude.{◌≡◌, ◌+◌, ◌*◌, ◌≤◌, length};
 ghost use Rattle.text.specs.Text.{Appended};
+ghost use Rattle.text.specs.Puts.{Puts};
 ghost use Rattle.reader.specs.Nodes.{Recorded, node_width};
 ghost use Rattle.listing.specs.Listing.{accepted_line, accepted_line_length, letter as letter_of, listed, listing, listing_length, node_line, node_line_length, node_lines, refused_line, refused_line_length};
 
 use crate::level::level;
 use reader::nodes;
 use reader::nodes::{node_extent, node_kind, node_token};
-use rows::answer::{Answer, Refusal, refusal_of};
-use text::{LONGEST_ENDED, put_byte, put_bytes, put_ended};
+use rows::answer::{Accepted, Answer, Refusal, Refused, refusal_of};
+use text::{LONGEST_ENDED, Text};
 
 // `ok` or `no`, and a space.
 const OPENING_LENGTH: usize = 3;
@@ -37,48 +38,44 @@ fn letter(kind: u32) -> u8
     }
 }
 
-fn put_node(text: &mut [u8], at: usize, tree: &[u32], node: usize) -> usize
-    requires { (at + node_line_length ≤ length text.old) × Recorded tree.now node }
-    ensures { Appended text.old at (node_line tree.now node) result text.new }
+fn put_node(text: &mut Text, tree: &[u32], node: usize)
+    requires { (text.old.end + node_line_length ≤ length text.old.bytes.now) × Recorded tree.now node }
+    ensures { Puts text.old (node_line tree.now node) text.new }
 {
-    let after_level = put_ended(text, at, level(tree, node), b' ');
-    let after_letter = put_byte(text, after_level, letter(node_kind(tree, node)));
-    let after_space = put_byte(text, after_letter, b' ');
-    let after_token = put_ended(text, after_space, node_token(tree, node), b' ');
-    put_ended(text, after_token, node_extent(tree, node), b'\n')
+    text.put_ended(level(tree, node), b' ');
+    text.put_byte(letter(node_kind(tree, node)));
+    text.put_byte(b' ');
+    text.put_ended(node_token(tree, node), b' ');
+    text.put_ended(node_extent(tree, node), b'\n');
 }
 
-fn put_nodes(text: &mut [u8], at: usize, tree: &[u32], nodes: usize) -> usize
-    requires { (at + node_line_length * nodes ≤ length text.old) × (node_width * nodes ≤ length tree.now) }
-    ensures { Appended text.old at (node_lines tree.now nodes) result text.new }
+fn put_nodes(text: &mut Text, tree: &[u32], nodes: usize)
+    requires { (text.old.end + node_line_length * nodes ≤ length text.old.bytes.now) × (node_width * nodes ≤ length tree.now) }
+    ensures { Puts text.old (node_lines tree.now nodes) text.new }
 {
-    let mut end = at;
-    let mut node = 0;
-    while node < nodes {
-        end = put_node(text, end, tree, node);
-        node += 1;
+    for node in 0..nodes {
+        put_node(text, tree, node);
     }
-    end
 }
 
-fn put_accepted(text: &mut [u8], at: usize, nodes: u32, steps: u32) -> usize
-    requires { at + accepted_line_length ≤ length text.old }
-    ensures { Appended text.old at (accepted_line nodes steps) result text.new }
+fn put_accepted(text: &mut Text, nodes: u32, steps: u32)
+    requires { text.old.end + accepted_line_length ≤ length text.old.bytes.now }
+    ensures { Puts text.old (accepted_line nodes steps) text.new }
 {
-    let after_ok = put_bytes(text, at, b"ok ");
-    let after_nodes = put_ended(text, after_ok, nodes as usize, b' ');
-    put_ended(text, after_nodes, steps as usize, b'\n')
+    text.put_bytes(b"ok ");
+    text.put_ended(nodes as usize, b' ');
+    text.put_ended(steps as usize, b'\n');
 }
 
-fn put_refused(text: &mut [u8], at: usize, refusal: Refusal, steps: u32) -> usize
-    requires { at + refused_line_length ≤ length text.old }
-    ensures { Appended text.old at (refused_line refusal steps) result text.new }
+fn put_refused(text: &mut Text, refusal: Refusal, steps: u32)
+    requires { text.old.end + refused_line_length ≤ length text.old.bytes.now }
+    ensures { Puts text.old (refused_line refusal steps) text.new }
 {
-    let after_no = put_bytes(text, at, b"no ");
-    let after_number = put_ended(text, after_no, refusal.number as usize, b' ');
-    let after_token = put_ended(text, after_number, refusal.token as usize, b' ');
-    let after_detail = put_ended(text, after_token, refusal.detail as usize, b' ');
-    put_ended(text, after_detail, steps as usize, b'\n')
+    text.put_bytes(b"no ");
+    text.put_ended(refusal.number as usize, b' ');
+    text.put_ended(refusal.token as usize, b' ');
+    text.put_ended(refusal.detail as usize, b' ');
+    text.put_ended(steps as usize, b'\n');
 }
 
 // As many nodes as the answer counts; the tree buffer has room for no more.
@@ -86,8 +83,21 @@ fn listed_nodes(nodes: u32, tree: &[u32]) -> usize
     ensures { result ≡ listed nodes tree.now }
 {
     let room = tree.len() / nodes::NODE_WIDTH;
-    let count = nodes as usize;
-    if count < room { count } else { room }
+    room.min(nodes as usize)
+}
+
+fn put_answer(text: &mut Text, answer: Answer, tree: &[u32])
+    requires { text.old.end + listing_length (length tree.now) ≤ length text.old.bytes.now }
+    ensures put { Puts text.old (listing answer tree.now) text.new }
+    ensures within { text.new.end ≤ length text.old.bytes.now }
+{
+    match answer {
+        Err(Refused { error, steps }) => put_refused(text, refusal_of(error), steps),
+        Ok(Accepted { nodes, steps }) => {
+            put_accepted(text, nodes, steps);
+            put_nodes(text, tree, listed_nodes(nodes, tree));
+        }
+    }
 }
 
 // The whole listing, in front of `text`.
@@ -96,11 +106,7 @@ pub fn put_listing(text: &mut [u8], answer: Answer, tree: &[u32]) -> usize
     ensures appended { Appended text.old 0 (listing answer tree.now) result text.new }
     ensures within { result ≤ length text.old }
 {
-    match answer {
-        Answer::Refused { error, steps } => put_refused(text, 0, refusal_of(error), steps),
-        Answer::Accepted { nodes, steps } => {
-            let at = put_accepted(text, 0, nodes, steps);
-            put_nodes(text, at, tree, listed_nodes(nodes, tree))
-        }
-    }
+    let mut lines = Text::new(text);
+    put_answer(&mut lines, answer, tree);
+    lines.len()
 }

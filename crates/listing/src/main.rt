@@ -13,7 +13,7 @@ ghost use Rattle.listing.specs.FileListing.{file_listing, input_length, tree_len
 
 use crate::lines::{NODE_LINE_LENGTH, REFUSED_LINE_LENGTH, put_listing};
 use reader::nodes::{NODE_WIDTH, NUMBERS_PER_TOKEN};
-use rows::answer::{Answer, TypeNameError};
+use rows::answer::{Refused, TypeNameError};
 use rows::row::MOST_TOKENS;
 use std::io;
 use std::io::Write;
@@ -40,11 +40,8 @@ fn list(input: &[u8], size: usize, text: &mut [u8]) -> usize
     let mut tree = [0u32; TREE_LENGTH];
     let is_too_long = FILE_LIMIT < size;
     if is_too_long {
-        let too_long = Answer::Refused {
-            error: TypeNameError::FileTooLong,
-            steps: 0,
-        };
-        return put_listing(text, too_long, &tree);
+        let too_long = Refused::from(TypeNameError::FileTooLong);
+        return put_listing(text, Err(too_long), &tree);
     }
     let answer = parse_type_name(&input[..size], &mut tree);
     put_listing(text, answer, &tree)

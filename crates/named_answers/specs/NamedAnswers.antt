@@ -1,11 +1,11 @@
 -- The answer to a file whose template names are given, and the final tree buffer: document 02, C-17.
 -- Assumes nothing.
+use Rattle.rows.specs.Answer.{Answer}
 use Rattle.std.specs.Prelude.{ℕ, Bool, List, length, eqb, if◌then◌else◌}
 use Rattle.rows.specs.Languages.{Cpp}
 use Rattle.rows.specs.Format.{format}
 use Rattle.rows.specs.Records.{kinds_of, words_of}
 use Rattle.rows.specs.declared.answer.TypeNameError.TheVariants.{InvalidNameList}
-use Rattle.rows.specs.declared.answer.Answer.{Answer}
 use Rattle.names.specs.NameList.{NameList, listed, malformed, name_list, names_marked}
 use Rattle.prescan.specs.Prescan.{prescan}
 use Rattle.named_reader.specs.NamedReading.{named_reading}

@@ -1,11 +1,11 @@
 -- What the contracts below the entry say, worded with the definitions of NamedAnswers.antt.
 -- Assumes nothing.
+use Rattle.rows.specs.Answer.{Answer}
 use Rattle.std.specs.Prelude.{ℕ, suc, ◌*◌, ◌≤◌, ◌<◌, ◌≡◌, Bool, true, false, List, length, get_or}
 use Rattle.rows.specs.Kinds.{Less, NoToken}
 use Rattle.rows.specs.Format.{most_tokens}
 use Rattle.rows.specs.Records.{RowToken, words_of}
 use Rattle.rows.specs.declared.head.Head.{Head}
-use Rattle.rows.specs.declared.answer.Answer.{Answer}
 use Rattle.names.specs.NameList.{listed, malformed, name_list, names_marked}
 use Rattle.names.specs.NamesSay.{RowIs}
 use Rattle.reader.specs.Nodes.{numbers_per_token}

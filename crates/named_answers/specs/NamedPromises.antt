@@ -1,6 +1,7 @@
 -- What is promised of the entry that takes template names: document 02, C-17, and the demands' clauses that hold of it as of the old entry. `file` and `names`
 -- are the files handed in, `before` what the tree buffer held at entry, `a` the answer, `after` what the buffer holds at exit.
 -- Assumes nothing.
+use Rattle.rows.specs.Answer.{accepted_with, refused_with, Answer}
 use Rattle.std.specs.Prelude.{ℕ, suc, ◌≤◌, ◌<◌, ◌≡◌, ◌≢◌, true, false, List, length, get_or}
 use Rattle.rows.specs.Kinds.{Identifier, Less, ShiftRight}
 use Rattle.rows.specs.Records.{RowToken, kinds_of}
@@ -8,8 +9,6 @@ use Rattle.rows.specs.Refusals.{refusal_of}
 use Rattle.rows.specs.declared.answer.Feature.{Feature}
 use Rattle.rows.specs.declared.answer.TypeNameError.{TypeNameError}
 use Rattle.rows.specs.declared.answer.TypeNameError.TheVariants.{InvalidNameList, NestingLimitExceeded, AllowancePassed, ShiftWithoutList, EmptyOrUnclosedList, NoTypeName, NotAvailableInProfile}
-use Rattle.rows.specs.declared.answer.Answer.{Answer}
-use Rattle.rows.specs.declared.answer.Answer.TheVariants.{Accepted, Refused}
 use Rattle.names.specs.NameList.{names_marked}
 use Rattle.reader.specs.Nodes.{Nodes, t_node, l_node, number, count, records, kind_of, token_of}
 use Rattle.reader.specs.Reading.{kind_at}
@@ -54,13 +53,13 @@ pub record RefusedAs (before after : List ℕ) (e : TypeNameError) : Type 0 wher
   pub buffer : RefusedBuffer before after e
 
 abbrev pub NamedRefused : (before : List ℕ) → Answer → (after : List ℕ) → Type 0
-NamedRefused before a after = (e : TypeNameError) (steps : ℕ) → a ≡ Refused e steps → RefusedAs before after e
+NamedRefused before a after = (e : TypeNameError) (steps : ℕ) → a ≡ refused_with e steps → RefusedAs before after e
 
 -- ---- every accepted row
 
 -- Its tree is the definition's, zeros after it.
 abbrev pub NamedTreeDefined : (file names before : List ℕ) → Answer → (after : List ℕ) → Type 0
-NamedTreeDefined file names before a after = (nodes steps : ℕ) → a ≡ Accepted nodes steps → TreeOf (named_outcome file names (length before)) file before a after steps
+NamedTreeDefined file names before a after = (nodes steps : ℕ) → a ≡ accepted_with nodes steps → TreeOf (named_outcome file names (length before)) file before a after steps
 
 -- "An accepted row here is written out in its own order, a `>>` that closes two lists standing for two `>`."
 abbrev pub WrittenInOrder : (file : List ℕ) → Answer → (after : List ℕ) → Type 0
@@ -71,7 +70,7 @@ WrittenInOrder file a after =
 abbrev pub NamedStable : (file names : List ℕ) → Answer → (after : List ℕ) → Type 0
 NamedStable file names a after =
     (ts : List RowToken) (x : Nodes) (steps : ℕ) → AcceptedAs file a after ts x steps → (file' before' : List ℕ) → NotBelow file file' before' ts steps
-    → (answer_named file' names (length before') ≡ Accepted (count x) steps) × (buffer_named file' names before' ≡ filled (length before') (records x))
+    → (answer_named file' names (length before') ≡ accepted_with (count x) steps) × (buffer_named file' names before' ≡ filled (length before') (records x))
 
 -- ---- the contract
 

@@ -1,5 +1,6 @@
 -- What is proved of the entry that takes template names, on one page: each theorem with what it means. The proofs are in Laws/ and in the crates below.
 -- Assumes nothing.
+use Rattle.rows.specs.Answer.{refused_with, Answer}
 use Rattle.std.specs.Prelude.{ℕ, ◌≤◌, ◌≡◌, Bool, true, false, List, length}
 use Rattle.std.proofs.Math.Path.{ap}
 use Rattle.rows.specs.Languages.{Cpp}
@@ -8,8 +9,6 @@ use Rattle.rows.specs.Records.{RowToken, row, records_from, kinds_of}
 use Rattle.rows.specs.Refusals.{refusal_of}
 use Rattle.rows.specs.Laws.RowFacts.{GoodTokens}
 use Rattle.rows.specs.declared.answer.TypeNameError.{TypeNameError}
-use Rattle.rows.specs.declared.answer.Answer.{Answer}
-use Rattle.rows.specs.declared.answer.Answer.TheVariants.{Refused}
 use Rattle.names.specs.NameList.{listed, name_list, names_marked}
 use Rattle.reader.specs.Nodes.{Nodes}
 use Rattle.reader.specs.Reading.{got, reading}
@@ -32,7 +31,7 @@ pub promised : (file names before : List ℕ) (a : Answer) (after : List ℕ) �
 promised = Laws.named_promised
 
 -- "So 21 to 23 don't occur here."
-pub never_21_to_23 : (file names : List ℕ) (room : ℕ) (e : TypeNameError) (m : ℕ) → answer_named file names room ≡ Refused e m → 21 ≤ (refusal_of e).number → (refusal_of e).number ≤ 23 → ⊥
+pub never_21_to_23 : (file names : List ℕ) (room : ℕ) (e : TypeNameError) (m : ℕ) → answer_named file names room ≡ refused_with e m → 21 ≤ (refusal_of e).number → (refusal_of e).number ≤ 23 → ⊥
 never_21_to_23 = Laws.never_21_to_23
 
 -- "A step in reading is one T, G, B or L begun .. so they are at most the tokens": of the reading, whether it comes to a tree or to a refusal.
@@ -60,7 +59,7 @@ read_without_lists = Beside.read_without_lists
 
 module _ (file names : List ℕ) (room : ℕ) (r : HeadRow) (is_row : file_row format file room ≡ passes r) (ns : List (List ℕ)) (is_listed : name_list names ≡ listed ns) where
   -- and 26 and 27 do not occur.
-  pub never_26_or_27 : NoneFollowed ns r.tokens → (e : TypeNameError) (m : ℕ) → answer_named file names room ≡ Refused e m → Beside.NotNew e
+  pub never_26_or_27 : NoneFollowed ns r.tokens → (e : TypeNameError) (m : ℕ) → answer_named file names room ≡ refused_with e m → Beside.NotNew e
   never_26_or_27 = Beside.never_26_or_27 file names room r is_row ns is_listed
 
   -- Where the old reading gave a tree, the row has no `>>`, no try failed in it and the word before each of its lists is a name, answer and buffer are the old

@@ -39,16 +39,6 @@ pub fn parse_named_type_name(file: &[u8], names: &[u8], tree: &mut [u32]) -> Ans
     let mut kinds = [0u8; MOST_TOKENS];
     let mut words = [0u8; MOST_TOKENS];
     let room = tree.len();
-    let row = read_file(file, room, &mut kinds, &mut words);
-    match row {
-        FileRow::Refused(error) => Answer::Refused { error, steps: 0 },
-        FileRow::Row { head, count } => answer_named(
-            head,
-            file,
-            &kinds[..count],
-            &words[..count],
-            names,
-            tree,
-        ),
-    }
+    let FileRow { head, count } = read_file(file, room, &mut kinds, &mut words)?;
+    answer_named(head, file, &kinds[..count], &words[..count], names, tree)
 }

@@ -2,9 +2,7 @@
 
 ghost use Rattle.named_answers.specs.NamedAnswersSay.{FindsNames, MarksReady};
 
-use names::marks::mark_names;
-use names::name_list::{NamesRead, read_names};
-use names::table::{BUCKETS, MOST_NAMES};
+use names::table::{BUCKETS, MOST_NAMES, NameTable};
 
 // Of each token before a `<`, whether its word is one of the names of the second file; false if that is malformed. The table of names is made here, once
 // a call.
@@ -15,12 +13,16 @@ pub fn find_names(file: &[u8], kinds: &[u8], names: &[u8], marks: &mut [bool]) -
     let mut places = [0u32; MOST_NAMES];
     let mut heads = [0u16; BUCKETS];
     let mut links = [0u16; MOST_NAMES];
-    let read = read_names(names, &mut places, &mut heads, &mut links);
-    match read {
-        NamesRead::Malformed => false,
-        NamesRead::Listed(_) => {
-            mark_names(file, kinds, names, &places, &heads, &links, marks);
-            true
-        }
+    let mut table = NameTable {
+        names,
+        count: 0,
+        places: &mut places,
+        heads: &mut heads,
+        links: &mut links,
+    };
+    if !table.read_names() {
+        return false;
     }
+    table.mark_names(file, kinds, marks);
+    true
 }

@@ -6,10 +6,9 @@ ghost use Rattle.named_answers.specs.NamedAnswersSay.{ReadsNamed, RowHeld, TreeR
 
 use crate::name_marks::find_names;
 use named_reader::parse::parse_named;
-use prescan::boundary::Prescanned;
 use prescan::prescan::prescan_row;
 use reader::parser::Parsed;
-use rows::answer::{Answer, TypeNameError};
+use rows::answer::{Answer, Refused, TypeNameError};
 use rows::head::Head;
 use rows::languages;
 use rows::row::MOST_TOKENS;
@@ -20,11 +19,7 @@ fn read_tree(kinds: &[u8], named: &[bool], tree: &mut [u32], allowance: u32) -> 
     requires { TreeReady kinds.now tree.old }
     ensures { TreeSays kinds.now allowance (named_tree named.now kinds.now) result tree.new }
 {
-    let scanned = prescan_row(languages::CPP, kinds, tree);
-    match scanned {
-        Prescanned::Refused(error) => return Parsed::Refused { error, steps: 0 },
-        Prescanned::Passed => {}
-    }
+    prescan_row(languages::CPP, kinds, tree)?;
     parse_named(kinds, named, tree, allowance)
 }
 
@@ -42,16 +37,10 @@ pub fn read_checked(
 {
     let mut named = [false; MOST_TOKENS];
     if head.language != languages::CPP {
-        return Answer::Refused {
-            error: TypeNameError::InvalidNameList,
-            steps: 0,
-        };
+        return Err(Refused::from(TypeNameError::InvalidNameList));
     }
     if !find_names(file, kinds, names, &mut named) {
-        return Answer::Refused {
-            error: TypeNameError::InvalidNameList,
-            steps: 0,
-        };
+        return Err(Refused::from(TypeNameError::InvalidNameList));
     }
     let parsed = read_tree(kinds, &named, tree, head.allowance);
     check_tree(head, kinds, words, tree, parsed)

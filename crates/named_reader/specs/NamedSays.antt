@@ -2,16 +2,16 @@
 -- The nodes so far stand in front of it in the order of their openers. The extent of a node that is open is not known yet: in its place stands the link to
 -- what is open around it, so that the buffer holds the stack as well. When the node is closed, its extent takes the link's place.
 -- Assumes nothing.
-use Rattle.std.specs.Prelude.{ℕ, suc, ◌+◌, ◌*◌, ◌≤◌, ◌<◌, ◌≡◌, Bool, true, false, List, [], ◌∷◌, ◌++◌, length, take}
+use Rattle.std.specs.Prelude.{ℕ, suc, ◌+◌, ◌*◌, ◌≤◌, ◌<◌, ◌≡◌, Bool, true, false, List, [], ◌∷◌, ◌++◌, length, take, Result, Ok, Err}
 use Rattle.rows.specs.declared.answer.Delimiter.{Delimiter}
 use Rattle.reader.specs.Nodes.{l_node, a_node, number, Nodes, none, count, node_width, numbers_bound, records}
 use Rattle.reader.specs.Tables.{node_of}
 use Rattle.reader.specs.Reading.{Got, got, bad, refusal}
-use Rattle.reader.specs.declared.parser.Parsed.{Parsed}
+use Rattle.reader.specs.declared.parser.Tree.{Tree}
+use Rattle.reader.specs.declared.parser.ParseError.{ParseError}
 use Rattle.named_reader.specs.NamedReading.{Frame, group, list, State, Step, on, stops, push, begin, closed, at_end}
 use Rattle.named_reader.specs.declared.frames.NamedReader.{NamedReader}
-use Rattle.named_reader.specs.declared.frames.NamedStep.{NamedStep}
-use Rattle.named_reader.specs.declared.frames.NamedStep.TheVariants as Code
+use Rattle.reader.specs.declared.parser.Stop.{Stop}
 
 -- How many nodes are begun, with these at the innermost level.
 unfoldable pub begun : List Frame → Nodes → ℕ
@@ -84,23 +84,23 @@ pub record InList (tree : List ℕ) (r : NamedReader) (b : Bool) : Type 0 where
   pub says : (s : State) → Stands tree r s → b ≡ list_innermost s.frames
 
 -- What the code comes to where the definition comes to a step, `total` being the steps so far and those left: the same, or no step is left for it.
-abbrev pub Comes : (total : ℕ) (tree : List ℕ) → Step → NamedStep → Type 0
-Comes total tree (on s) (Code.On r) = Stands tree r s × (s.steps + r.left ≡ total)
-Comes total tree (stops e m) (Code.On r) = ⊥
-Comes total tree (on s) (Code.Refused e left) = ⊥
-Comes total tree (stops e m) (Code.Refused e' left) = (e ≡ e') × (m + left ≡ total)
-Comes total tree (on s) Code.Spent = total < s.steps
-Comes total tree (stops e m) Code.Spent = total < m
+abbrev pub Comes : (total : ℕ) (tree : List ℕ) → Step → Result NamedReader Stop → Type 0
+Comes total tree (on s) (Ok r) = Stands tree r s × (s.steps + r.left ≡ total)
+Comes total tree (stops e m) (Ok r) = ⊥
+Comes total tree (on s) (Err (Stop.Refused e left)) = ⊥
+Comes total tree (stops e m) (Err (Stop.Refused e' left)) = (e ≡ e') × (m + left ≡ total)
+Comes total tree (on s) (Err Stop.Spent) = total < s.steps
+Comes total tree (stops e m) (Err Stop.Spent) = total < m
 
 -- It begins at most two nodes.
-abbrev pub Grows : (nodes : ℕ) → NamedStep → Type 0
-Grows nodes (Code.On r) = r.nodes ≤ nodes + 2
-Grows nodes (Code.Refused e left) = Unit {0}
-Grows nodes Code.Spent = Unit {0}
+abbrev pub Grows : (nodes : ℕ) → Result NamedReader Stop → Type 0
+Grows nodes (Ok r) = r.nodes ≤ nodes + 2
+Grows nodes (Err (Stop.Refused e left)) = Unit {0}
+Grows nodes (Err Stop.Spent) = Unit {0}
 
 -- A step of the code does what is due in whichever state the code's state and buffer are. What the buffer holds behind the nodes, and after a refusal, is
 -- free.
-pub record Does (before : List ℕ) (r : NamedReader) (after : List ℕ) (done : NamedStep) (due : State → Step) : Type 0 where
+pub record Does (before : List ℕ) (r : NamedReader) (after : List ℕ) (done : Result NamedReader Stop) (due : State → Step) : Type 0 where
   pub says : (s : State) → Stands before r s → Comes (s.steps + r.left) after (due s) done
   pub grown : Grows r.nodes done
 
@@ -141,13 +141,13 @@ pub record Moves (before : List ℕ) (r : NamedReader) (after : List ℕ) (r' : 
   pub grown : r'.nodes ≤ r.nodes + more
 
 -- `end_row`: what the definition comes to at the row's end, from whichever state this is, so many steps being left of the allowance.
-abbrev pub EndSays : (allowance : ℕ) (tree : List ℕ) → Got → Parsed → Type 0
-EndSays allowance tree (got x at half m) (Parsed.Tree n k) = (k ≡ m) × (count x ≡ n) × (take (node_width * n) tree ≡ records x)
-EndSays allowance tree (got x at half m) (Parsed.Refused e k) = ⊥
-EndSays allowance tree (got x at half m) Parsed.AllowancePassed = ⊥
-EndSays allowance tree (bad f m) (Parsed.Tree n k) = ⊥
-EndSays allowance tree (bad f m) (Parsed.Refused e k) = (f ≡ refusal e) × (k ≡ m)
-EndSays allowance tree (bad f m) Parsed.AllowancePassed = ⊥
+abbrev pub EndSays : (allowance : ℕ) (tree : List ℕ) → Got → Result Tree ParseError → Type 0
+EndSays allowance tree (got x at half m) (Ok t) = (t.steps ≡ m) × (count x ≡ t.nodes) × (take (node_width * t.nodes) tree ≡ records x)
+EndSays allowance tree (got x at half m) (Err (ParseError.Refused e k)) = ⊥
+EndSays allowance tree (got x at half m) (Err ParseError.AllowancePassed) = ⊥
+EndSays allowance tree (bad f m) (Ok t) = ⊥
+EndSays allowance tree (bad f m) (Err (ParseError.Refused e k)) = (f ≡ refusal e) × (k ≡ m)
+EndSays allowance tree (bad f m) (Err ParseError.AllowancePassed) = ⊥
 
-pub record Ends (tree : List ℕ) (r : NamedReader) (allowance : ℕ) (p : Parsed) : Type 0 where
+pub record Ends (tree : List ℕ) (r : NamedReader) (allowance : ℕ) (p : Result Tree ParseError) : Type 0 where
   pub says : (s : State) → Stands tree r s → s.steps + r.left ≡ allowance → (at : ℕ) → EndSays allowance tree (at_end at s.frames s) p

@@ -9,26 +9,19 @@ ghost use Rattle.named_reader.specs.NamedSays.{Does, Held, HeldGroup, HeldList, 
 use reader::nodes::{
     ARGUMENT_NODE, LIST_NODE, NODE_WIDTH, TOKEN_NODE, node_extent, node_kind, put_extent, put_node,
 };
-use reader::parser::TypeSyntaxParser;
+use reader::parser::{Stop, TypeSyntaxParser};
 use reader::tables::group_kind;
 use rows::answer::{Delimiter, TypeNameError};
 
-// `nodes` are begun. `inner`: one more than the number of the node that is open innermost, of the argument's in a list; 0 if none is. `nesting` groups and
-// lists are open, and `left` steps are left of the allowance.
+// `nodes` are begun. `inner`: one more than the number of the node that is open innermost, of the argument's in a list; 0 if none is: a number, since
+// these links stand in the tree buffer in place of extents. `nesting` groups and lists are open, and `left` steps are left of the allowance. The order of
+// the fields is that in which they overlap least with those of `Stop`, which shares their place in a result.
 #[derive(Clone, Copy)]
 pub struct NamedReader {
     pub nodes: usize,
+    pub left: u32,
     pub inner: usize,
     pub nesting: usize,
-    pub left: u32,
-}
-
-// What comes of a token: on with the next; a refusal, with the steps left; or no step is left for it.
-#[derive(Clone, Copy)]
-pub enum NamedStep {
-    On(NamedReader),
-    Refused(TypeNameError, u32),
-    Spent,
 }
 
 // Writes a node record behind those of `nodes` nodes.
@@ -52,19 +45,18 @@ pub fn in_list(tree: &[u32], reader: NamedReader) -> bool
 }
 
 // The token at `at` by itself.
-pub fn take_plain(tree: &mut [u32], reader: NamedReader, at: usize) -> NamedStep
+pub fn take_plain(tree: &mut [u32], reader: NamedReader, at: usize) -> Result<NamedReader, Stop>
     requires { Held tree.old reader × RoomFor tree.old reader.nodes 1 × (at < numbers_bound) }
     ensures { Does tree.old reader tree.new result (plain at) }
 {
     if reader.left == 0 {
-        return NamedStep::Spent;
+        return Err(Stop::Spent);
     }
     append_node(tree, reader.nodes, TOKEN_NODE, at, 1);
-    NamedStep::On(NamedReader {
+    Ok(NamedReader {
         nodes: reader.nodes + 1,
-        inner: reader.inner,
-        nesting: reader.nesting,
         left: reader.left - 1,
+        ..reader
     })
 }
 
@@ -74,20 +66,20 @@ pub fn begin_group(
     reader: NamedReader,
     at: usize,
     delimiter: Delimiter,
-) -> NamedStep
+) -> Result<NamedReader, Stop>
     requires { Held tree.old reader × RoomFor tree.old reader.nodes 1 × (at < numbers_bound) }
     ensures { Does tree.old reader tree.new result (begin_group delimiter at) }
 {
     if reader.left == 0 {
-        return NamedStep::Spent;
+        return Err(Stop::Spent);
     }
     let left = reader.left - 1;
     if TypeSyntaxParser::MAX_NESTING_DEPTH <= reader.nesting {
-        return NamedStep::Refused(TypeNameError::NestingLimitExceeded, left);
+        return Err(Stop::Refused(TypeNameError::NestingLimitExceeded, left));
     }
     append_node(tree, reader.nodes, group_kind(delimiter), at, reader.inner);
     let nodes = reader.nodes + 1;
-    NamedStep::On(NamedReader {
+    Ok(NamedReader {
         nodes,
         inner: nodes,
         nesting: reader.nesting + 1,
@@ -96,21 +88,21 @@ pub fn begin_group(
 }
 
 // The `<` at `at` begins a list, and its first argument.
-pub fn begin_list(tree: &mut [u32], reader: NamedReader, at: usize) -> NamedStep
+pub fn begin_list(tree: &mut [u32], reader: NamedReader, at: usize) -> Result<NamedReader, Stop>
     requires { Held tree.old reader × RoomFor tree.old reader.nodes 2 × (at + 1 < numbers_bound) }
     ensures { Does tree.old reader tree.new result (begin_list at) }
 {
     if reader.left == 0 {
-        return NamedStep::Spent;
+        return Err(Stop::Spent);
     }
     let left = reader.left - 1;
     if TypeSyntaxParser::MAX_NESTING_DEPTH <= reader.nesting {
-        return NamedStep::Refused(TypeNameError::NestingLimitExceeded, left);
+        return Err(Stop::Refused(TypeNameError::NestingLimitExceeded, left));
     }
     append_node(tree, reader.nodes, LIST_NODE, at, reader.inner);
     append_node(tree, reader.nodes + 1, ARGUMENT_NODE, at + 1, reader.nodes);
     let nodes = reader.nodes + 2;
-    NamedStep::On(NamedReader {
+    Ok(NamedReader {
         nodes,
         inner: nodes,
         nesting: reader.nesting + 1,
@@ -130,10 +122,9 @@ pub fn close_list(tree: &mut [u32], reader: NamedReader) -> NamedReader
     put_extent(tree, argument, nodes - argument);
     put_extent(tree, list, nodes - list);
     NamedReader {
-        nodes,
         inner: outer,
         nesting: reader.nesting - 1,
-        left: reader.left,
+        ..reader
     }
 }
 
@@ -150,8 +141,7 @@ pub fn next_argument(tree: &mut [u32], reader: NamedReader, at: usize) -> NamedR
     NamedReader {
         nodes: nodes + 1,
         inner: nodes + 1,
-        nesting: reader.nesting,
-        left: reader.left,
+        ..reader
     }
 }
 
@@ -165,9 +155,8 @@ pub fn close_group(tree: &mut [u32], reader: NamedReader) -> NamedReader
     let outer = node_extent(tree, group);
     put_extent(tree, group, nodes - group);
     NamedReader {
-        nodes,
         inner: outer,
         nesting: reader.nesting - 1,
-        left: reader.left,
+        ..reader
     }
 }

@@ -7,9 +7,9 @@ ghost use Rattle.reader.specs.ReaderSays.{Parses};
 ghost use Rattle.named_reader.specs.NamedReading.{named_reading};
 ghost use Rattle.named_reader.specs.NamedSays.{Ends, Held};
 
-use crate::frames::{NamedReader, NamedStep, in_list};
+use crate::frames::{NamedReader, in_list};
 use crate::tokens::take_token;
-use reader::parser::Parsed;
+use reader::parser::{ParseError, Parsed, Stop, Tree};
 use rows::answer::TypeNameError;
 
 // What is read once every token has been taken.
@@ -19,21 +19,21 @@ fn end_row(tree: &[u32], reader: NamedReader, allowance: u32) -> Parsed
 {
     let steps = allowance - reader.left;
     if reader.inner == 0 {
-        return Parsed::Tree {
+        return Ok(Tree {
             nodes: reader.nodes,
             steps,
-        };
+        });
     }
     if in_list(tree, reader) {
-        return Parsed::Refused {
+        return Err(ParseError::Refused {
             error: TypeNameError::EmptyOrUnclosedList,
             steps,
-        };
+        });
     }
-    Parsed::Refused {
+    Err(ParseError::Refused {
         error: TypeNameError::UnterminatedGroup,
         steps,
-    }
+    })
 }
 
 // Reads a row: its tree at the front of `tree`, or why it has none. `named`: of each token, whether it is one of the names.
@@ -47,21 +47,16 @@ pub fn parse_named(kinds: &[u8], named: &[bool], tree: &mut [u32], allowance: u3
         nesting: 0,
         left: allowance,
     };
-    let mut at = 0;
-    while at < kinds.len() {
-        let step = take_token(named, tree, reader, kinds[at], at);
-        match step {
-            NamedStep::On(next) => {
-                reader = next;
-                at += 1;
-            }
-            NamedStep::Refused(error, left) => {
-                return Parsed::Refused {
+    for (at, &kind) in kinds.iter().enumerate() {
+        match take_token(named, tree, reader, kind, at) {
+            Ok(next) => reader = next,
+            Err(Stop::Refused(error, left)) => {
+                return Err(ParseError::Refused {
                     error,
                     steps: allowance - left,
-                };
+                });
             }
-            NamedStep::Spent => return Parsed::AllowancePassed,
+            Err(Stop::Spent) => return Err(ParseError::AllowancePassed),
         }
     }
     end_row(tree, reader, allowance)

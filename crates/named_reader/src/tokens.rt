@@ -6,10 +6,11 @@ ghost use Rattle.named_reader.specs.NamedReading.{after_name, at_closer, at_comm
 ghost use Rattle.named_reader.specs.NamedSays.{Does, Held, RoomFor};
 
 use crate::frames::{
-    NamedReader, NamedStep, begin_group, begin_list, close_group, close_list, in_list,
-    next_argument, take_plain,
+    NamedReader, begin_group, begin_list, close_group, close_list, in_list, next_argument,
+    take_plain,
 };
 use reader::nodes::{ARGUMENT_NODE, node_kind};
+use reader::parser::Stop;
 use reader::tables::group_kind;
 use rows::answer::{Delimiter, TypeNameError};
 use rows::kinds;
@@ -28,7 +29,7 @@ fn after_name(named: &[bool], at: usize) -> bool
     false
 }
 
-fn at_greater(tree: &mut [u32], reader: NamedReader, at: usize) -> NamedStep
+fn at_greater(tree: &mut [u32], reader: NamedReader, at: usize) -> Result<NamedReader, Stop>
     requires { Held tree.old reader × RoomFor tree.old reader.nodes 1 × (at < numbers_bound) }
     ensures { Does tree.old reader tree.new result (λ s. at_greater at s.frames s) }
 {
@@ -36,12 +37,12 @@ fn at_greater(tree: &mut [u32], reader: NamedReader, at: usize) -> NamedStep
         return take_plain(tree, reader, at);
     }
     if reader.inner == reader.nodes {
-        return NamedStep::Refused(TypeNameError::EmptyOrUnclosedList, reader.left);
+        return Err(Stop::Refused(TypeNameError::EmptyOrUnclosedList, reader.left));
     }
-    NamedStep::On(close_list(tree, reader))
+    Ok(close_list(tree, reader))
 }
 
-fn at_shift(tree: &mut [u32], reader: NamedReader, at: usize) -> NamedStep
+fn at_shift(tree: &mut [u32], reader: NamedReader, at: usize) -> Result<NamedReader, Stop>
     requires { Held tree.old reader × RoomFor tree.old reader.nodes 1 × (at < numbers_bound) }
     ensures { Does tree.old reader tree.new result (λ s. at_shift at s.frames s) }
 {
@@ -49,16 +50,16 @@ fn at_shift(tree: &mut [u32], reader: NamedReader, at: usize) -> NamedStep
         return take_plain(tree, reader, at);
     }
     if reader.inner == reader.nodes {
-        return NamedStep::Refused(TypeNameError::EmptyOrUnclosedList, reader.left);
+        return Err(Stop::Refused(TypeNameError::EmptyOrUnclosedList, reader.left));
     }
     let outer = close_list(tree, reader);
     if !in_list(tree, outer) {
-        return NamedStep::Refused(TypeNameError::ShiftWithoutList, outer.left);
+        return Err(Stop::Refused(TypeNameError::ShiftWithoutList, outer.left));
     }
-    NamedStep::On(close_list(tree, outer))
+    Ok(close_list(tree, outer))
 }
 
-fn at_comma(tree: &mut [u32], reader: NamedReader, at: usize) -> NamedStep
+fn at_comma(tree: &mut [u32], reader: NamedReader, at: usize) -> Result<NamedReader, Stop>
     requires { Held tree.old reader × RoomFor tree.old reader.nodes 1 × (at + 1 < numbers_bound) }
     ensures { Does tree.old reader tree.new result (λ s. at_comma at s.frames s) }
 {
@@ -66,26 +67,30 @@ fn at_comma(tree: &mut [u32], reader: NamedReader, at: usize) -> NamedStep
         return take_plain(tree, reader, at);
     }
     if reader.inner == reader.nodes {
-        return NamedStep::Refused(TypeNameError::EmptyOrUnclosedList, reader.left);
+        return Err(Stop::Refused(TypeNameError::EmptyOrUnclosedList, reader.left));
     }
-    NamedStep::On(next_argument(tree, reader, at))
+    Ok(next_argument(tree, reader, at))
 }
 
-fn at_closer(tree: &mut [u32], reader: NamedReader, delimiter: Delimiter) -> NamedStep
+fn at_closer(
+    tree: &mut [u32],
+    reader: NamedReader,
+    delimiter: Delimiter,
+) -> Result<NamedReader, Stop>
     requires { Held tree.old reader × RoomFor tree.old reader.nodes 1 }
     ensures { Does tree.old reader tree.new result (λ s. at_closer delimiter s.frames s) }
 {
     if reader.inner == 0 {
-        return NamedStep::Refused(TypeNameError::MismatchedClosingDelimiter, reader.left);
+        return Err(Stop::Refused(TypeNameError::MismatchedClosingDelimiter, reader.left));
     }
     let kind = node_kind(tree, reader.inner - 1);
     if kind == ARGUMENT_NODE {
-        return NamedStep::Refused(TypeNameError::EmptyOrUnclosedList, reader.left);
+        return Err(Stop::Refused(TypeNameError::EmptyOrUnclosedList, reader.left));
     }
     if kind == group_kind(delimiter) {
-        return NamedStep::On(close_group(tree, reader));
+        return Ok(close_group(tree, reader));
     }
-    NamedStep::Refused(TypeNameError::MismatchedClosingDelimiter, reader.left)
+    Err(Stop::Refused(TypeNameError::MismatchedClosingDelimiter, reader.left))
 }
 
 // A token that is no bracket.
@@ -95,7 +100,7 @@ fn no_bracket(
     reader: NamedReader,
     kind: u8,
     at: usize,
-) -> NamedStep
+) -> Result<NamedReader, Stop>
     requires { Held tree.old reader × RoomFor tree.old reader.nodes 2 × (at + 1 < numbers_bound) }
     ensures { Does tree.old reader tree.new result (no_bracket named.now kind at) }
 {
@@ -124,7 +129,7 @@ pub fn take_token(
     reader: NamedReader,
     kind: u8,
     at: usize,
-) -> NamedStep
+) -> Result<NamedReader, Stop>
     requires { Held tree.old reader × RoomFor tree.old reader.nodes 2 × (at + 1 < numbers_bound) }
     ensures { Does tree.old reader tree.new result (take_token named.now kind at) }
 {

@@ -1,12 +1,10 @@
 -- The table of names, and what the contracts say of it. What bucket a word has is of no matter to what they say of names. Document 02, C-17.
 -- Assumes nothing.
-use Rattle.std.specs.Prelude.{ℕ, suc, ◌+◌, ◌*◌, ◌-◌, ◌%◌, ◌^◌, ◌≤◌, ◌<◌, ◌≡◌, ◌≢◌, Bool, true, false, List, [], ◌∷◌, ◌++◌, length, get_or, replicate}
+use Rattle.std.specs.Prelude.{ℕ, suc, ◌+◌, ◌*◌, ◌-◌, ◌%◌, ◌≤◌, ◌<◌, ◌≡◌, ◌≢◌, Bool, true, false, List, [], ◌∷◌, ◌++◌, length, get_or, replicate}
 use Rattle.rows.specs.Kinds.{Less}
 use Rattle.rows.specs.Format.{format, head_length, most_tokens}
-use Rattle.rows.specs.Records.{RowToken, row, found, word_in, records_from, kinds_of, places_of}
-use Rattle.rows.specs.declared.token.TokenRecord.TheVariants.{Formed}
+use Rattle.rows.specs.Records.{RowToken, row, found, word_in, records_from, kinds_of, places_of, formed}
 use Rattle.names.specs.NameList.{most_names, is_name, listed, malformed, name_list}
-use Rattle.names.specs.declared.name_list.NamesRead.{NamesRead}
 
 -- How many buckets there are.
 abbrev pub buckets : ℕ
@@ -38,7 +36,7 @@ word_of file at = word_in format file at (found format file at)
 pub record SomeRecord (file : List ℕ) (at : ℕ) : Type 0 where
   pub kind : ℕ
   pub size : ℕ
-  pub is : found format file at ≡ Formed kind size
+  pub is : found format file at ≡ formed kind size
 
 -- The newest of the first n names that is in a bucket, by its number from 1; 0 if none is.
 pub record Newest (ns : List (List ℕ)) (bucket n newest : ℕ) : Type 0 where
@@ -61,6 +59,12 @@ pub record Table (file : List ℕ) (ns : List (List ℕ)) (heads links places : 
   pub for_heads : buckets ≤ length heads
   pub headed : (b : ℕ) → b < buckets → Newest ns b (length ns) (get_or heads b 0)
 
+-- The table of so many names.
+pub record SomeTable (file : List ℕ) (count : ℕ) (heads links places : List ℕ) : Type 0 where
+  pub names : List (List ℕ)
+  pub table : Table file names heads links places
+  pub counted : length names ≡ count
+
 -- ---- looking for a word
 
 -- What `in_chain` requires: some names are linked, and `first` is the newest in the word's bucket.
@@ -73,25 +77,11 @@ pub record SomeChain (file links places : List ℕ) (first : ℕ) (word : List �
 pub record LooksInChain (file links places : List ℕ) (first : ℕ) (word : List ℕ) (r : Bool) : Type 0 where
   pub says : (ns : List (List ℕ)) → Linked file ns links places → Newest ns (bucket_of word) (length ns) first → r ≡ is_name ns word
 
--- What `is_name` requires: the table of some names.
-pub record SomeTable (file heads links places : List ℕ) : Type 0 where
-  pub names : List (List ℕ)
-  pub table : Table file names heads links places
-
 -- What `is_name` says of the names of the table.
 pub record Looks (file heads links places word : List ℕ) (r : Bool) : Type 0 where
   pub says : (ns : List (List ℕ)) → Table file ns heads links places → r ≡ is_name ns word
 
 -- ---- one name more
-
--- What `add_name` requires: the table of so many names, with room for one more, and a record at a byte offset of 32 bits.
-pub record SomeNames (file : List ℕ) (at count : ℕ) (heads links places : List ℕ) : Type 0 where
-  pub names : List (List ℕ)
-  pub table : Table file names heads links places
-  pub counted : length names ≡ count
-  pub room : count < most_names
-  pub there : SomeRecord file at
-  pub offset_fits : at < 2 ^ 32
 
 -- The word at a byte offset was none of the names, and is now; or it was one.
 abbrev pub Added : (file : List ℕ) (at : ℕ) (ns : List (List ℕ)) → Bool → (heads links places : List ℕ) → Type 0
@@ -104,7 +94,7 @@ pub record Adds (file : List ℕ) (at count : ℕ) (heads links places : List �
 
 -- ---- the name list
 
--- What is lent to read names into: heads of no names, and room for the most names.
+-- What a table of no names is made of: heads of no names, and room for the most names.
 pub record Clear (heads links places : List ℕ) : Type 0 where
   pub no_heads : heads ≡ replicate buckets 0
   pub for_links : most_names ≤ length links
@@ -117,13 +107,13 @@ pub record NamesListed (file : List ℕ) (count : ℕ) (heads links places : Lis
   pub counted : length names ≡ count
   pub table : Table file names heads links places
 
-abbrev pub NamesTold : (file : List ℕ) → NamesRead → (heads links places : List ℕ) → Type 0
-NamesTold file (NamesRead.Listed count) heads links places = NamesListed file count heads links places
-NamesTold file NamesRead.Malformed heads links places = name_list file ≡ malformed
+abbrev pub NamesTold : (file : List ℕ) → Bool → (count : ℕ) (heads links places : List ℕ) → Type 0
+NamesTold file true count heads links places = NamesListed file count heads links places
+NamesTold file false count heads links places = name_list file ≡ malformed
 
--- `read_names`. What the arrays hold where the list is malformed is free.
-pub record ReadsNames (file : List ℕ) (r : NamesRead) (heads links places : List ℕ) : Type 0 where
-  pub told : NamesTold file r heads links places
+-- `read_names`. Which names the table holds where the list is malformed is free.
+pub record ReadsNames (file : List ℕ) (r : Bool) (count : ℕ) (heads links places : List ℕ) : Type 0 where
+  pub told : NamesTold file r count heads links places
 
 -- ---- marks
 
@@ -132,9 +122,8 @@ pub record RowIs (file kinds : List ℕ) (ts : List RowToken) : Type 0 where
   pub row_is : records_from format file most_tokens head_length ≡ row ts
   pub kinds_are : kinds ≡ kinds_of ts
 
--- What `mark_names` requires: the table of some names, the kinds of the file's row, and a mark for each token.
-pub record MarksRoom (file kinds names heads links places : List ℕ) (marks : List Bool) : Type 0 where
-  pub table : SomeTable names heads links places
+-- What `mark_names` requires: the kinds of the file's row, and a mark for each token.
+pub record MarksRoom (file kinds : List ℕ) (marks : List Bool) : Type 0 where
   pub tokens : List RowToken
   pub of_row : RowIs file kinds tokens
   pub for_marks : length kinds ≤ length marks

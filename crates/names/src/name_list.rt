@@ -1,50 +1,38 @@
 // The name list: document 02, C-17.
 
-ghost use Rattle.names.specs.NamesSay.{Clear, ReadsNames};
+ghost use Rattle.std.specs.Prelude.{◌≡◌};
+ghost use Rattle.names.specs.NamesSay.{ReadsNames};
 
-use crate::table::{MOST_NAMES, add_name};
+use crate::table::{MOST_NAMES, NameTable};
 use rows::format::current;
 use rows::kinds::IDENTIFIER;
 use rows::token::{TokenRecord, token_at};
 
-// How many names a file lists.
-#[derive(Clone, Copy)]
-pub enum NamesRead {
-    Listed(usize),
-    Malformed,
-}
-
-// The names of a file: its token records up to its end, each at the byte offset that `places` gets.
-pub fn read_names(
-    file: &[u8],
-    places: &mut [u32],
-    heads: &mut [u16],
-    links: &mut [u16],
-) -> NamesRead
-    requires { Clear heads.old links.old places.old }
-    ensures { ReadsNames file.now result heads.new links.new places.new }
-{
-    let mut at = 0;
-    let mut count: usize = 0;
-    while at < file.len() {
-        if count == MOST_NAMES {
-            return NamesRead::Malformed;
+impl NameTable<'_> {
+    // Whether the lent list is well formed: token records of distinct names up to its end, one at least. An empty table gets them.
+    pub fn read_names(&mut self) -> bool
+        requires { self.old.count ≡ 0 }
+        ensures told { ReadsNames self.old.names.now result self.new.count self.new.heads.now self.new.links.now self.new.places.now }
+        ensures kept { self.new.names ≡ self.old.names }
+    {
+        let names = self.names;
+        let mut at = 0;
+        while at < names.len() {
+            if self.count == MOST_NAMES {
+                return false;
+            }
+            let found = token_at(current(), names, at);
+            let Some(TokenRecord { kind, length }) = found else {
+                return false;
+            };
+            if kind != IDENTIFIER {
+                return false;
+            }
+            if !self.add_name(at) {
+                return false;
+            }
+            at += length;
         }
-        let found = token_at(current(), file, at);
-        let TokenRecord::Formed { kind, length } = found else {
-            return NamesRead::Malformed;
-        };
-        if kind != IDENTIFIER {
-            return NamesRead::Malformed;
-        }
-        if !add_name(file, at, count, places, heads, links) {
-            return NamesRead::Malformed;
-        }
-        count += 1;
-        at += length;
+        self.count != 0
     }
-    if count == 0 {
-        return NamesRead::Malformed;
-    }
-    NamesRead::Listed(count)
 }

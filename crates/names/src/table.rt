@@ -1,9 +1,11 @@
 // The table of names: which of them share a bucket, linked from the newest on.
 
-ghost use Rattle.std.specs.Prelude.{◌≡◌, ◌<◌};
-ghost use Rattle.names.specs.NamesSay.{Adds, Looks, LooksInChain, SomeChain, SomeNames, SomeRecord, SomeTable, bucket_of, buckets, word_of};
+ghost use Rattle.std.specs.Prelude.{◌≡◌, ◌+◌, ◌<◌, ◌^◌, if◌then◌else◌};
+ghost use Rattle.names.specs.NameList.{most_names};
+ghost use Rattle.names.specs.NamesSay.{Adds, Looks, LooksInChain, SomeChain, SomeRecord, SomeTable, bucket_of, buckets, word_of};
+ghost use Rattle.names.specs.OneList.{SomeTable-prop};
 
-use rows::bytes::{same_bytes, two_bytes, wide, wide_two};
+use rows::bytes::{same_bytes, two_bytes};
 use rows::format::{current, token_length};
 
 pub const MOST_NAMES: usize = 512;
@@ -12,10 +14,16 @@ pub const BUCKETS: usize = 512;
 
 const FACTOR: usize = 31;
 
-pub fn wide_four(number: u32) -> usize
-    ensures { result ≡ number }
-{
-    number as usize
+// The table of the first `count` names of a lent list: where each name's record begins, the newest name of each bucket, by its number from 1, and of each
+// name the newest before it in its bucket. 0 for none: `Option<u16>` would take twice the memory.
+#[derive(Drop)]
+pub struct NameTable<'a> {
+    pub names: &'a [u8],
+    pub count: usize,
+    pub places: &'a mut [u32],
+    pub heads: &'a mut [u16],
+    pub links: &'a mut [u16],
+    ghost held: { SomeTable names.now count heads.now links.now places.now } by { SomeTable-prop names.now count heads.now links.now places.now },
 }
 
 // The word of the well-formed token record at a byte offset.
@@ -34,61 +42,56 @@ pub fn bucket_of(word: &[u8]) -> usize
     ensures small { result < buckets }
 {
     let mut bucket: usize = 0;
-    let mut i = 0;
-    while i < word.len() {
-        bucket = (bucket * FACTOR + wide(word[i])) % BUCKETS;
-        i += 1;
+    for &byte in word {
+        bucket = (bucket * FACTOR + usize::from(byte)) % BUCKETS;
     }
     bucket
 }
 
-// The word is one of the names of its bucket, of which `first` is the newest one's number, from 1, or 0.
-fn in_chain(names: &[u8], places: &[u32], links: &[u16], first: usize, sought: &[u8]) -> bool
-    requires { SomeChain names.now links.now places.now first sought.now }
-    ensures { LooksInChain names.now links.now places.now first sought.now result }
-{
-    let mut entry = first;
-    while 0 < entry {
-        let number = entry - 1;
-        let name = word_there(names, wide_four(places[number]));
-        if same_bytes(name, sought) {
-            return true;
+impl NameTable<'_> {
+    // The word is one of the names of its bucket, of which `first` is the newest one's number, from 1, or 0.
+    fn in_chain(&self, first: usize, sought: &[u8]) -> bool
+        requires { SomeChain self.now.names.now self.now.links.now self.now.places.now first sought.now }
+        ensures { LooksInChain self.now.names.now self.now.links.now self.now.places.now first sought.now result }
+    {
+        let mut entry = first;
+        while 0 < entry {
+            let number = entry - 1;
+            let name = word_there(self.names, self.places[number] as usize);
+            if same_bytes(name, sought) {
+                return true;
+            }
+            entry = usize::from(self.links[number]);
         }
-        entry = wide_two(links[number]);
+        false
     }
-    false
-}
 
-// The word is one of the names.
-pub fn is_name(names: &[u8], places: &[u32], heads: &[u16], links: &[u16], sought: &[u8]) -> bool
-    requires { SomeTable names.now heads.now links.now places.now }
-    ensures { Looks names.now heads.now links.now places.now sought.now result }
-{
-    let bucket = bucket_of(sought);
-    let first = wide_two(heads[bucket]);
-    in_chain(names, places, links, first, sought)
-}
-
-// One name more, the word of the well-formed record at a byte offset, unless it is one of those `count` that are in the table.
-pub fn add_name(
-    names: &[u8],
-    at: usize,
-    count: usize,
-    places: &mut [u32],
-    heads: &mut [u16],
-    links: &mut [u16],
-) -> bool
-    requires { SomeNames names.now at count heads.old links.old places.old }
-    ensures { Adds names.now at count heads.old links.old places.old result heads.new links.new places.new }
-{
-    let name = word_there(names, at);
-    let bucket = bucket_of(name);
-    let first = heads[bucket];
-    if in_chain(names, places, links, wide_two(first), name) {
-        return false;
+    // The word is one of the names.
+    pub fn is_name(&self, sought: &[u8]) -> bool
+        ensures { Looks self.now.names.now self.now.heads.now self.now.links.now self.now.places.now sought.now result }
+    {
+        let bucket = bucket_of(sought);
+        let first = usize::from(self.heads[bucket]);
+        self.in_chain(first, sought)
     }
-    places[count] = at as u32;
-    links[count] = first;
-    heads[bucket] = (count + 1) as u16;
-    true
+
+    // One name more, the word of the well-formed record at a byte offset, unless it is one of those that are in the table.
+    pub fn add_name(&mut self, at: usize) -> bool
+        requires { (self.old.count < most_names) × SomeRecord self.old.names.now at × (at < 2 ^ 32) }
+        ensures added { Adds self.old.names.now at self.old.count self.old.heads.now self.old.links.now self.old.places.now result self.new.heads.now self.new.links.now self.new.places.now }
+        ensures counted { self.new.count ≡ (if result then self.old.count + 1 else self.old.count) }
+        ensures kept { self.new.names ≡ self.old.names }
+    {
+        let name = word_there(self.names, at);
+        let bucket = bucket_of(name);
+        let first = self.heads[bucket];
+        if self.in_chain(usize::from(first), name) {
+            return false;
+        }
+        self.places[self.count] = at as u32;
+        self.links[self.count] = first;
+        self.heads[bucket] = (self.count + 1) as u16;
+        self.count += 1;
+        true
+    }
 }

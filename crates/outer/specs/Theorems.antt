@@ -1,8 +1,8 @@
 -- What is proved of the definitions, on one page: each theorem with what it means. The proofs are in Laws/.
 -- Assumes nothing.
+use Rattle.rows.specs.Answer.{Answer}
 use Rattle.std.specs.Prelude.{ℕ, ◌≡◌, ◌≢◌, List, ◌∷◌, ◌++◌, length, get_or}
 use Rattle.rows.specs.Records.{kinds_of}
-use Rattle.rows.specs.declared.answer.Answer.{Answer}
 use Rattle.reader.specs.Nodes.{l_node, Nodes, number, records}
 use Rattle.type_name.specs.Answers.{accepted, answer_of, filled}
 use Rattle.type_name.specs.Promises.{TreeOf, HasTree}

@@ -18,7 +18,7 @@ fn is_argument(tree: &[u32], at: usize, end: usize) -> bool
     (node_kind(tree, at) == ARGUMENT_NODE) & (0 < extent) & (extent <= end - at)
 }
 
-// How many arguments the list that ends before node `end` has; 0 if anything else stands in it.
+// How many arguments the list that ends before node `end` has; 0, and no `None`, if anything else stands in it: C is given the number as it is.
 pub fn count_arguments(tree: &[u32], end: usize) -> u32
     requires { (2 ≤ end) × (end ≤ 2 ^ 32) × (node_width * end ≤ length tree.now) }
     ensures { result ≡ arguments_from tree.now (end - 2) 0 2 0 }

@@ -1,11 +1,10 @@
 -- The prescan: document 01, "Bracket pairs", and the places "Prescan" and "Row end" of its table: refusals 10 to 18.
 -- Assumes nothing.
-use Rattle.std.specs.Prelude.{ℕ, suc, ◌-◌, Bool, false, not, ◌&&◌, ◌||◌, List, [], ◌∷◌, length, get_or, leb, eqb, if◌then◌else◌}
+use Rattle.std.specs.Prelude.{ℕ, suc, ◌-◌, Bool, false, not, ◌&&◌, ◌||◌, List, [], ◌∷◌, length, get_or, leb, eqb, if◌then◌else◌, Some, None}
 use Rattle.rows.specs.Notation.{◌is_one_of◌}
 use Rattle.rows.specs.Languages.{C, Cpp, Fortran}
 use Rattle.rows.specs.Kinds.{Identifier, Integer, RightParen, RightBracket, Comma, Scope, Star, Ampersand, LogicalAnd, Less, Greater, ShiftRight, End, NoToken}
 use Rattle.rows.specs.Refusals.{no_token}
-use Rattle.rows.specs.declared.answer.Open.TheVariants.{Nothing, Opened}
 use Rattle.rows.specs.declared.answer.Delimiter.{Delimiter}
 use Rattle.rows.specs.declared.answer.TypeNameError.{TypeNameError}
 use Rattle.rows.specs.declared.answer.TypeNameError.TheVariants.{Empty, UnexpectedClosingDelimiter, UnexpectedAngle, TopLevelComma, UnexpectedEndToken, UnclosedDelimiter, UnclosedAngle, MissingTypeWord, InvalidBoundaryToken}
@@ -36,10 +35,10 @@ past k s brackets depth first = record { open_brackets = brackets; angle_depth =
 -- `close_delimiter`: "11 closing bracket unexpected (detail: 0 none, 1 `(` or 2 `[` was open)".
 unfoldable pub close : Delimiter → (k at : ℕ) → List Opener → Scan → Scanned
 unfolding past same
-close d k at [] s = refused (UnexpectedClosingDelimiter Nothing d at)
+close d k at [] s = refused (UnexpectedClosingDelimiter None d at)
 close d k at (o ∷ outer) s =
     if same o.delimiter d then passed (past k s outer s.angle_depth s.first_angle)
-    else refused (UnexpectedClosingDelimiter (Opened o.delimiter) d at)
+    else refused (UnexpectedClosingDelimiter (Some o.delimiter) d at)
 
 -- "`<` needs C++ and, just before it, an identifier, `>`, `>>`, `)` or `]`."
 unfoldable pub opens_angle : (language last : ℕ) → Bool

@@ -6,15 +6,9 @@ ghost use Rattle.prescan.specs.Prescan.{row_end, valid_end, valid_start};
 ghost use Rattle.prescan.specs.Prescanned.{PrescanSays};
 ghost use Rattle.prescan.specs.ScanState.{Sound, openers, scan_of};
 
-use crate::scan::{ScanState, delimiter, index};
+use crate::scan::{ScanState, delimiter};
 use rows::answer::TypeNameError;
 use rows::{kinds, languages};
-
-#[derive(Clone, Copy)]
-pub enum Prescanned {
-    Passed,
-    Refused(TypeNameError),
-}
 
 fn is_valid_start(first: u8) -> bool
     ensures { result ≡ valid_start first }
@@ -48,28 +42,33 @@ fn kind_before_last(kinds: &[u8]) -> u8
 }
 
 // An open bracket, an open angle, no identifier or a bad boundary, in this order; or the row passes.
-pub fn check_row_end(language: u8, kinds: &[u8], stack: &[u32], s: ScanState) -> Prescanned
+pub fn check_row_end(
+    language: u8,
+    kinds: &[u8],
+    stack: &[u32],
+    s: ScanState,
+) -> Result<(), TypeNameError>
     requires { Sound kinds.now stack.now s (length kinds.now) × (0 < length kinds.now) }
     ensures { PrescanSays result (row_end language kinds.now (openers kinds.now stack.now s.depth) (scan_of (openers kinds.now stack.now s.depth) s)) }
 {
     let depth = s.depth;
     if 0 < depth {
         let token = stack[depth - 1];
-        let open = delimiter(kinds[index(token)]);
-        return Prescanned::Refused(TypeNameError::UnclosedDelimiter {
+        let open = delimiter(kinds[token as usize]);
+        return Err(TypeNameError::UnclosedDelimiter {
             delimiter: open,
             token,
         });
     }
     if 0 < s.angles {
-        return Prescanned::Refused(TypeNameError::UnclosedAngle { token: s.first });
+        return Err(TypeNameError::UnclosedAngle { token: s.first });
     }
     if !s.word {
-        return Prescanned::Refused(TypeNameError::MissingTypeWord);
+        return Err(TypeNameError::MissingTypeWord);
     }
     let before = kind_before_last(kinds);
     if is_valid_start(kinds[0]) & is_valid_end(language, before, kinds[kinds.len() - 1]) {
-        return Prescanned::Passed;
+        return Ok(());
     }
-    Prescanned::Refused(TypeNameError::InvalidBoundaryToken)
+    Err(TypeNameError::InvalidBoundaryToken)
 }

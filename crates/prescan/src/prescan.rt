@@ -4,18 +4,18 @@ ghost use Rattle.std.specs.Prelude.{◌<◌, ◌≤◌, ◌^◌, length};
 ghost use Rattle.prescan.specs.Prescan.{prescan};
 ghost use Rattle.prescan.specs.Prescanned.{PrescanSays};
 
-use crate::boundary::{Prescanned, check_row_end};
-use crate::scan::{ScanState, ScanStep, is_ordinary, take};
+use crate::boundary::check_row_end;
+use crate::scan::{ScanState, is_ordinary, take};
 use rows::answer::{NO_TOKEN, TypeNameError};
 use rows::kinds;
 
-// Refusals 10 to 18. `stack` is lent for the openers' token numbers; what it holds in the end is free.
-pub fn prescan_row(language: u8, kinds: &[u8], stack: &mut [u32]) -> Prescanned
+// Refusals 10 to 18. `stack` is lent for the openers' token numbers, since there is no heap; what it holds in the end is free.
+pub fn prescan_row(language: u8, kinds: &[u8], stack: &mut [u32]) -> Result<(), TypeNameError>
     requires { (length kinds.now ≤ length stack.old) × (length kinds.now < 2 ^ 32) }
     ensures { PrescanSays result (prescan language kinds.now) }
 {
     if kinds.len() == 0 {
-        return Prescanned::Refused(TypeNameError::Empty);
+        return Err(TypeNameError::Empty);
     }
     let mut state = ScanState {
         depth: 0,
@@ -24,27 +24,18 @@ pub fn prescan_row(language: u8, kinds: &[u8], stack: &mut [u32]) -> Prescanned
         word: false,
         last: kinds::NO_TOKEN_KIND,
     };
-    let mut at = 0;
-    while at < kinds.len() {
-        let kind = kinds[at];
+    for (at, &kind) in kinds.iter().enumerate() {
         // Most tokens change neither brackets nor angles.
         if kind == kinds::IDENTIFIER {
             state.word = true;
             state.last = kind;
-            at += 1;
-            continue;
-        }
-        if is_ordinary(kind) {
+        } else if is_ordinary(kind) {
             state.last = kind;
-            at += 1;
-            continue;
-        }
-        let step = take(language, kinds, stack, state, at);
-        match step {
-            ScanStep::Refused(error) => return Prescanned::Refused(error),
-            ScanStep::On(next) => {
-                state = next;
-                at += 1;
+        } else {
+            // Not by `?`: with it the state goes through memory, which takes half as long again.
+            match take(language, kinds, stack, state, at) {
+                Ok(next) => state = next,
+                Err(error) => return Err(error),
             }
         }
     }

@@ -3,11 +3,10 @@
 ghost use Rattle.std.specs.Prelude.{◌≡◌, not, ◌+◌, ◌<◌, ◌≤◌, ◌^◌, get_or, length, set, [], ◌∷◌};
 ghost use Rattle.rows.specs.Kinds.{Comma, End, Greater, LeftBracket, LeftParen, Less, NoToken, RightBracket, RightParen, ShiftRight};
 ghost use Rattle.rows.specs.Notation.{◌is_one_of◌};
-ghost use Rattle.prescan.specs.Matcher.{same};
 ghost use Rattle.prescan.specs.Prescan.{close, opens_angle, outside_brackets, passed, take_token};
 ghost use Rattle.prescan.specs.ScanState.{Counted, Past, Sound, Steps, Takes, delimiter_of, openers, scan_of};
 
-use rows::answer::{Delimiter, NO_TOKEN, Open, TypeNameError};
+use rows::answer::{Delimiter, NO_TOKEN, TypeNameError};
 use rows::{kinds, languages};
 
 // A token of this kind opens, closes and parts nothing, wherever it stands.
@@ -44,7 +43,8 @@ pub fn is_ordinary(kind: u8) -> bool
     kind != kinds::NO_TOKEN_KIND
 }
 
-// What is known after some tokens. `depth` brackets are open: their token numbers stand in a lent stack.
+// What is known after some tokens. `depth` brackets are open: their token numbers stand in a lent stack. `first`: the angle that was seen first, `NO_TOKEN`
+// before: no Option, since it is read only where an angle is open.
 #[derive(Clone, Copy)]
 pub struct ScanState {
     pub depth: usize,
@@ -54,34 +54,7 @@ pub struct ScanState {
     pub last: u8,
 }
 
-#[derive(Clone, Copy)]
-pub enum ScanStep {
-    On(ScanState),
-    Refused(TypeNameError),
-}
-
-fn same_delimiter(one: Delimiter, other: Delimiter) -> bool
-    ensures { result ≡ same one other }
-{
-    match one {
-        Delimiter::Parenthesis => match other {
-            Delimiter::Parenthesis => true,
-            Delimiter::Bracket => false,
-        },
-        Delimiter::Bracket => match other {
-            Delimiter::Parenthesis => false,
-            Delimiter::Bracket => true,
-        },
-    }
-}
-
-pub fn index(token: u32) -> usize
-    ensures { result ≡ token }
-{
-    token as usize
-}
-
-// Of an opener's kind.
+// Of an opener's kind. No `From`: neither type is this crate's.
 pub fn delimiter(kind: u8) -> Delimiter
     ensures { result ≡ delimiter_of kind }
 {
@@ -116,7 +89,7 @@ fn past(s: ScanState, kind: u8, depth: usize, angles: usize, first: u32) -> Scan
 }
 
 // An angle or a comma, or another token, outside brackets.
-fn outside(language: u8, kind: u8, at: usize, s: ScanState) -> ScanStep
+fn outside(language: u8, kind: u8, at: usize, s: ScanState) -> Result<ScanState, TypeNameError>
     requires { Counted s at }
     ensures { Steps [] s result (outside_brackets language kind at (scan_of [] s)) }
 {
@@ -124,34 +97,34 @@ fn outside(language: u8, kind: u8, at: usize, s: ScanState) -> ScanStep
     if kind == kinds::LESS {
         if opens_angle(language, s.last) {
             if s.first == NO_TOKEN {
-                return ScanStep::On(past(s, kind, s.depth, s.angles + 1, token));
+                return Ok(past(s, kind, s.depth, s.angles + 1, token));
             }
-            return ScanStep::On(past(s, kind, s.depth, s.angles + 1, s.first));
+            return Ok(past(s, kind, s.depth, s.angles + 1, s.first));
         }
-        return ScanStep::Refused(TypeNameError::UnexpectedAngle { token });
+        return Err(TypeNameError::UnexpectedAngle { token });
     }
     if kind == kinds::GREATER {
         if s.angles == 0 {
-            return ScanStep::Refused(TypeNameError::UnexpectedAngle { token });
+            return Err(TypeNameError::UnexpectedAngle { token });
         }
-        return ScanStep::On(past(s, kind, s.depth, s.angles - 1, s.first));
+        return Ok(past(s, kind, s.depth, s.angles - 1, s.first));
     }
     if kind == kinds::SHIFT_RIGHT {
         if s.angles == 1 {
-            return ScanStep::Refused(TypeNameError::UnexpectedAngle { token });
+            return Err(TypeNameError::UnexpectedAngle { token });
         }
         if 2 <= s.angles {
-            return ScanStep::On(past(s, kind, s.depth, s.angles - 2, s.first));
+            return Ok(past(s, kind, s.depth, s.angles - 2, s.first));
         }
-        return ScanStep::On(past(s, kind, s.depth, s.angles, s.first));
+        return Ok(past(s, kind, s.depth, s.angles, s.first));
     }
     if kind == kinds::COMMA {
         if s.angles == 0 {
-            return ScanStep::Refused(TypeNameError::TopLevelComma { token });
+            return Err(TypeNameError::TopLevelComma { token });
         }
-        return ScanStep::On(past(s, kind, s.depth, s.angles, s.first));
+        return Ok(past(s, kind, s.depth, s.angles, s.first));
     }
-    ScanStep::On(past(s, kind, s.depth, s.angles, s.first))
+    Ok(past(s, kind, s.depth, s.angles, s.first))
 }
 
 // An opener goes on the stack.
@@ -172,42 +145,48 @@ fn close_delimiter(
     kind: u8,
     at: usize,
     actual: Delimiter,
-) -> ScanStep
+) -> Result<ScanState, TypeNameError>
     requires { Sound kinds.now stack.now s at × (at < length kinds.now) }
     ensures { Takes kinds.now stack.now at result (close actual kind at (openers kinds.now stack.now s.depth) (scan_of (openers kinds.now stack.now s.depth) s)) }
 {
     let depth = s.depth;
     let token = at as u32;
     if depth == 0 {
-        return ScanStep::Refused(TypeNameError::UnexpectedClosingDelimiter {
-            expected: Open::Nothing,
+        return Err(TypeNameError::UnexpectedClosingDelimiter {
+            expected: None,
             actual,
             token,
         });
     }
-    let top = index(stack[depth - 1]);
+    let top = stack[depth - 1] as usize;
     let opened = delimiter(kinds[top]);
-    if same_delimiter(opened, actual) {
-        return ScanStep::On(past(s, kind, depth - 1, s.angles, s.first));
+    if opened == actual {
+        return Ok(past(s, kind, depth - 1, s.angles, s.first));
     }
-    ScanStep::Refused(TypeNameError::UnexpectedClosingDelimiter {
-        expected: Open::Opened(opened),
+    Err(TypeNameError::UnexpectedClosingDelimiter {
+        expected: Some(opened),
         actual,
         token,
     })
 }
 
 // The state past token number `at`, or the first fault.
-pub fn take(language: u8, kinds: &[u8], stack: &mut [u32], s: ScanState, at: usize) -> ScanStep
+pub fn take(
+    language: u8,
+    kinds: &[u8],
+    stack: &mut [u32],
+    s: ScanState,
+    at: usize,
+) -> Result<ScanState, TypeNameError>
     requires { Sound kinds.now stack.old s at × (at < length kinds.now) }
     ensures { Takes kinds.now stack.new at result (take_token language (get_or kinds.now at 0) at (passed (scan_of (openers kinds.now stack.old s.depth) s))) }
 {
     let kind = kinds[at];
     if kind == kinds::LEFT_PAREN {
-        return ScanStep::On(push(stack, s, kind, at));
+        return Ok(push(stack, s, kind, at));
     }
     if kind == kinds::LEFT_BRACKET {
-        return ScanStep::On(push(stack, s, kind, at));
+        return Ok(push(stack, s, kind, at));
     }
     if kind == kinds::RIGHT_PAREN {
         return close_delimiter(kinds, stack, s, kind, at, Delimiter::Parenthesis);
@@ -216,10 +195,10 @@ pub fn take(language: u8, kinds: &[u8], stack: &mut [u32], s: ScanState, at: usi
         return close_delimiter(kinds, stack, s, kind, at, Delimiter::Bracket);
     }
     if kind == kinds::END {
-        return ScanStep::Refused(TypeNameError::UnexpectedEndToken { token: at as u32 });
+        return Err(TypeNameError::UnexpectedEndToken { token: at as u32 });
     }
     if 0 < s.depth {
-        return ScanStep::On(past(s, kind, s.depth, s.angles, s.first));
+        return Ok(past(s, kind, s.depth, s.angles, s.first));
     }
     outside(language, kind, at, s)
 }

@@ -1,18 +1,17 @@
 -- Computed rows of this crate's definitions, so that a wrong edit of one is refused here.
 -- Assumes nothing.
-use Rattle.std.specs.Prelude.{ℕ, ◌+◌, ◌≡◌, refl, List, [], ◌∷◌}
+use Rattle.std.specs.Prelude.{ℕ, ◌+◌, ◌≡◌, refl, List, [], ◌∷◌, None, Option, Some}
 use Rattle.rows.specs.Languages.{C, Cpp, Fortran, C89, C99, C11, C18, C23, Cpp98, Cpp11, Fortran77, Fortran90, Fortran95, Fortran2003, Fortran2008, Fortran2018}
 use Rattle.rows.specs.Kinds.{Identifier, Integer, LeftParen, RightParen, Dot, Star, LogicalAnd, Equal}
 use Rattle.rows.specs.Words.{no_word, other_case, long, _Atomic, _BitInt, typeof, typeof_unqual, decltype, type, class}
 use Rattle.rows.specs.Refusals.{feature_detail}
 use Rattle.profile.specs.Profile.{missing_feature}
-use Rattle.profile.specs.declared.profile.Lack.{Lack}
-use Rattle.profile.specs.declared.profile.Lack.TheVariants.{Nothing, Lacks}
+use Rattle.rows.specs.declared.answer.Feature.{Feature}
 
 -- The detail of refusal 40, 0 for none.
-detail_in : Lack → ℕ
-detail_in Nothing = 0
-detail_in (Lacks f) = feature_detail f
+detail_in : Option Feature → ℕ
+detail_in None = 0
+detail_in (Some f) = feature_detail f
 
 ask : (language standard : ℕ) → (kinds words : List ℕ) → ℕ
 unfolding detail_in missing_feature

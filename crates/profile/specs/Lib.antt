@@ -1,3 +1,4 @@
 pub mod Profile
+pub mod Tested
 pub mod Laws
 pub mod Examples

@@ -1,6 +1,6 @@
 -- What a row uses and a standard lacks: document 01, refusal 40; `validate_profile_features` restated over rows.
 -- Assumes nothing.
-use Rattle.std.specs.Prelude.{ℕ, zero, suc, ◌+◌, Bool, true, false, ◌&&◌, ◌||◌, List, [], ◌∷◌, length, get_or, leb, ltb, if◌then◌else◌}
+use Rattle.std.specs.Prelude.{ℕ, zero, suc, ◌+◌, Bool, true, false, ◌&&◌, ◌||◌, List, [], ◌∷◌, length, get_or, leb, ltb, if◌then◌else◌, None, Option, Some}
 use Rattle.std.proofs.Math.Dec.{eqb}
 use Rattle.rows.specs.Languages.{C, Cpp, Fortran, C99, C11, C23, Cpp11, Fortran90, Fortran2003, Fortran2018}
 use Rattle.rows.specs.Kinds.{Identifier, LeftParen, RightParen, Dot, Star, LogicalAnd, Equal, NoToken}
@@ -8,8 +8,6 @@ use Rattle.rows.specs.Words.{no_word, exactly, ignoring_case, long, _Atomic, _Bi
 use Rattle.rows.specs.Refusals.{feature_detail}
 use Rattle.rows.specs.declared.answer.Feature.{Feature}
 use Rattle.rows.specs.declared.answer.Feature.TheVariants.{LongLong, Atomic, BitInt, Typeof, TypeofUnqual, Decltype, RvalueReference, Selector, DerivedType, Class, AssumedTypeOrRank}
-use Rattle.profile.specs.declared.profile.Lack.{Lack}
-use Rattle.profile.specs.declared.profile.Lack.TheVariants.{Nothing, Lacks}
 
 -- Some number below n passes: `any` over the places of a row.
 unfoldable pub some_below : (n : ℕ) → (ℕ → Bool) → Bool
@@ -100,19 +98,19 @@ features language =
     else []
 
 -- "Of several missing features the one with the least detail is given."
-unfoldable pub least : Feature → Lack → Lack
-least f Nothing = Lacks f
-least f (Lacks g) = if leb (feature_detail f) (feature_detail g) then Lacks f else Lacks g
+unfoldable pub least : Feature → Option Feature → Option Feature
+least f None = Some f
+least f (Some g) = if leb (feature_detail f) (feature_detail g) then Some f else Some g
 
 -- What the standard lacks of these features: `validate_profile_features`, a feature after the other.
-unfoldable pub lacking : (ignoring : Bool) (standard : ℕ) → (kinds words : List ℕ) → List Since → Lack
+unfoldable pub lacking : (ignoring : Bool) (standard : ℕ) → (kinds words : List ℕ) → List Since → Option Feature
 unfolding uses least
-lacking ignoring standard kinds words [] = Nothing
+lacking ignoring standard kinds words [] = None
 lacking ignoring standard kinds words (s ∷ ss) =
     let rest = lacking ignoring standard kinds words ss in
     if uses ignoring kinds words s.feature && ltb standard s.standard then least s.feature rest else rest
 
 -- `validate_profile_features`
-unfoldable pub missing_feature : (language standard : ℕ) → (kinds words : List ℕ) → Lack
+unfoldable pub missing_feature : (language standard : ℕ) → (kinds words : List ℕ) → Option Feature
 unfolding lacking features
 missing_feature language standard kinds words = lacking (ignores_case language) standard kinds words (features language)

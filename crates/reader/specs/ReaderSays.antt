@@ -1,7 +1,7 @@
 -- What the contracts of the reader's code say. Each function is told in the terms of the reading's definition under the steps left (`reading_within`).
 -- Left free: the numbers of the lent buffer behind the nodes that were read, and the whole buffer after a refusal, a failed try or refusal 25.
 -- Assumes nothing.
-use Rattle.std.specs.Prelude.{ℕ, suc, ◌+◌, ◌-◌, ◌*◌, ◌≤◌, ◌<◌, ◌≡◌, ◌⊎◌, ◌≢◌, Bool, true, false, List, ◌∷◌, length, take, drop, leb, eqb}
+use Rattle.std.specs.Prelude.{ℕ, suc, ◌+◌, ◌-◌, ◌*◌, ◌≤◌, ◌<◌, ◌≡◌, ◌⊎◌, ◌≢◌, Bool, true, false, List, ◌∷◌, length, take, drop, leb, eqb, Result, Ok, Err}
 use Rattle.rows.specs.Kinds.{Identifier, ShiftRight}
 use Rattle.rows.specs.Format.{most_tokens}
 use Rattle.rows.specs.declared.answer.TypeNameError.{TypeNameError}
@@ -11,10 +11,12 @@ use Rattle.reader.specs.Reading.{Region, Fault, refusal, Got, got, bad, starts, 
 use Rattle.reader.specs.Allowance.{Limited, done, denied, spent, steps, reading_within, behind}
 use Rattle.reader.specs.declared.parser.TypeSyntaxParser.{TypeSyntaxParser}
 use Rattle.reader.specs.declared.parser.Stop.{Stop}
-use Rattle.reader.specs.declared.parser.Reading as CodeReading
-use Rattle.reader.specs.declared.parser.Reading.TheVariants.{Done, Stopped}
-use Rattle.reader.specs.declared.parser.ListReading.{ListReading}
-use Rattle.reader.specs.declared.parser.Parsed.{Parsed}
+use Rattle.reader.specs.declared.parser.NodesRead.{NodesRead}
+use Rattle.reader.specs.declared.parser.ListStop.{ListStop}
+use Rattle.reader.specs.declared.parser.ListEnd.{ListEnd}
+use Rattle.reader.specs.declared.parser.ListEnd.TheVariants.{Closed, EmptyArgument, Unterminated}
+use Rattle.reader.specs.declared.parser.Tree.{Tree}
+use Rattle.reader.specs.declared.parser.ParseError.{ParseError}
 
 -- ---- what a caller sees to
 
@@ -45,22 +47,22 @@ Denied o (Stop.Refused e left) = o ≡ denied (refusal e) left
 Denied o Stop.Spent = o ≡ spent
 
 -- What `parse_group` says: the nodes of the region, or why it stopped.
-abbrev pub GroupSays : List ℕ → ℕ → Limited → CodeReading.Reading → List ℕ → Type 0
-GroupSays row at o (Done now n) buf = Told row at 0 o now n buf
-GroupSays row at o (Stopped s) buf = Denied o s
+abbrev pub GroupSays : List ℕ → ℕ → Limited → Result NodesRead Stop → List ℕ → Type 0
+GroupSays row at o (Ok r) buf = Told row at 0 o r.next r.nodes buf
+GroupSays row at o (Err s) buf = Denied o s
 
 -- `parse_group`.
-pub record GroupAnswers (row : List ℕ) (at : ℕ) (o : Limited) (r : CodeReading.Reading) (buf : List ℕ) : Type 0 where
+pub record GroupAnswers (row : List ℕ) (at : ℕ) (o : Limited) (r : Result NodesRead Stop) (buf : List ℕ) : Type 0 where
   pub says : GroupSays row at o r buf
 
 -- What `parse_template_arguments` says: the arguments, that the try failed, or refusal 25.
-abbrev pub ListSays : List ℕ → ℕ → Limited → ListReading → List ℕ → Type 0
-ListSays row at o (ListReading.Read now n) buf = Told row at 1 o now n buf
-ListSays row at o (ListReading.Failed left) buf = (e : Fault) × (o ≡ denied e left)
-ListSays row at o ListReading.Spent buf = o ≡ spent
+abbrev pub ListSays : List ℕ → ℕ → Limited → Result NodesRead ListStop → List ℕ → Type 0
+ListSays row at o (Ok r) buf = Told row at 1 o r.next r.nodes buf
+ListSays row at o (Err (ListStop.Failed left)) buf = (e : Fault) × (o ≡ denied e left)
+ListSays row at o (Err ListStop.Spent) buf = o ≡ spent
 
 -- `parse_template_arguments`: a list that fails, fails with a fault that its try forgets.
-pub record ListAnswers (row : List ℕ) (at : ℕ) (o : Limited) (r : ListReading) (buf : List ℕ) : Type 0 where
+pub record ListAnswers (row : List ℕ) (at : ℕ) (o : Limited) (r : Result NodesRead ListStop) (buf : List ℕ) : Type 0 where
   pub says : ListSays row at o r buf
 
 module _ (cpp : Bool) (row : List ℕ) where
@@ -91,12 +93,12 @@ module _ (cpp : Bool) (row : List ℕ) where
       pub size : n + 2 * p.cursor ≤ 2 * now.cursor
 
     -- What `parse_node` says: one node, or why it stopped.
-    abbrev pub NodeSays : CodeReading.Reading → List ℕ → Type 0
-    NodeSays (Done now n) buf = Found now n buf
-    NodeSays (Stopped s) buf = (l : Region) → Denied (node_due lists nesting after_identifier p l) s
+    abbrev pub NodeSays : Result NodesRead Stop → List ℕ → Type 0
+    NodeSays (Ok r) buf = Found r.next r.nodes buf
+    NodeSays (Err s) buf = (l : Region) → Denied (node_due lists nesting after_identifier p l) s
 
     -- `parse_node`.
-    pub record NodeAnswers (r : CodeReading.Reading) (buf : List ℕ) : Type 0 where
+    pub record NodeAnswers (r : Result NodesRead Stop) (buf : List ℕ) : Type 0 where
       pub says : NodeSays r buf
 
 -- ---- small functions
@@ -106,20 +108,23 @@ abbrev pub past : TypeSyntaxParser → (left : ℕ) → TypeSyntaxParser
 past p left = record { cursor = p.cursor + 1; pending_greater = p.pending_greater; left = left }
 
 -- What `parse_token` says, of the buffer before and after: one step is taken and the token's record written, or no step is left.
-abbrev pub TokenSays : TypeSyntaxParser → CodeReading.Reading → (before after : List ℕ) → Type 0
-TokenSays p (Done now n) before after =
-    (p.left ≢ 0) × (now ≡ past p (p.left - 1)) × (n ≡ 1) × (after ≡ number t_node ∷ p.cursor ∷ 1 ∷ drop node_width before)
-TokenSays p (Stopped s) before after = (p.left ≡ 0) × (s ≡ Stop.Spent)
+abbrev pub TokenSays : TypeSyntaxParser → Result NodesRead Stop → (before after : List ℕ) → Type 0
+TokenSays p (Ok r) before after =
+    (p.left ≢ 0) × (r.next ≡ past p (p.left - 1)) × (r.nodes ≡ 1) × (after ≡ number t_node ∷ p.cursor ∷ 1 ∷ drop node_width before)
+TokenSays p (Err s) before after = (p.left ≡ 0) × (s ≡ Stop.Spent)
 
 -- `parse_token`.
-pub record TokenAnswers (p : TypeSyntaxParser) (r : CodeReading.Reading) (before after : List ℕ) : Type 0 where
+pub record TokenAnswers (p : TypeSyntaxParser) (r : Result NodesRead Stop) (before after : List ℕ) : Type 0 where
   pub says : TokenSays p r before after
 
--- What comes of a list where this comes of its nodes.
-abbrev pub list_reading_of : CodeReading.Reading → ListReading
-list_reading_of (Done now n) = ListReading.Read now n
-list_reading_of (Stopped (Stop.Refused e left)) = ListReading.Failed left
-list_reading_of (Stopped Stop.Spent) = ListReading.Spent
+-- What a stop of its nodes is to a list: it fails, unless no step was left.
+abbrev pub list_stop_of : Stop → ListStop
+list_stop_of (Stop.Refused e left) = ListStop.Failed left
+list_stop_of Stop.Spent = ListStop.Spent
+
+-- A refusal before the reading: no step is taken.
+abbrev pub refused_unread : TypeNameError → ParseError
+refused_unread e = ParseError.Refused e 0
 
 -- A list is closed at a token: by half a `>>`, or by the token.
 unfoldable pub closed_at : (at : ℕ) (half : Bool) → ℕ
@@ -130,6 +135,16 @@ closed_at at false = suc at
 unfoldable pub closed_half : List ℕ → (at : ℕ) (half : Bool) → Bool
 closed_half row at true = false
 closed_half row at false = eqb (kind_at row at) ShiftRight
+
+-- Where the reading goes on behind the list,
+abbrev pub closed : List ℕ → TypeSyntaxParser → TypeSyntaxParser
+closed row p = record { cursor = closed_at p.cursor p.pending_greater; pending_greater = closed_half row p.cursor p.pending_greater; left = p.left }
+
+-- and what comes of a list whose arguments end so, with n nodes of them.
+abbrev pub list_ended : List ℕ → TypeSyntaxParser → (n : ℕ) → ListEnd → Result NodesRead ListStop
+list_ended row p n Closed = Ok (record { next = closed row p; nodes = n })
+list_ended row p n EmptyArgument = Err (ListStop.Failed p.left)
+list_ended row p n Unterminated = Err (ListStop.Failed p.left)
 
 -- ---- the whole row
 
@@ -151,11 +166,11 @@ pub record LeftOver (row : List ℕ) (g : Got) (e : TypeNameError) (m : ℕ) : T
   pub over : (at ≢ length row) ⊎ (half ≡ true)
 
 -- What `parse` says: the tree, a refusal of the reading or 23, or refusal 25.
-abbrev pub ParseSays : List ℕ → ℕ → Got → Parsed → List ℕ → Type 0
-ParseSays row allowance g (Parsed.Tree n m) buf = TreeRead row allowance g n m buf
-ParseSays row allowance g (Parsed.Refused e m) buf = (m ≤ allowance) × ((g ≡ bad (refusal e) m) ⊎ LeftOver row g e m)
-ParseSays row allowance g Parsed.AllowancePassed buf = allowance < steps g
+abbrev pub ParseSays : List ℕ → ℕ → Got → Result Tree ParseError → List ℕ → Type 0
+ParseSays row allowance g (Ok t) buf = TreeRead row allowance g t.nodes t.steps buf
+ParseSays row allowance g (Err (ParseError.Refused e m)) buf = (m ≤ allowance) × ((g ≡ bad (refusal e) m) ⊎ LeftOver row g e m)
+ParseSays row allowance g (Err ParseError.AllowancePassed) buf = allowance < steps g
 
 -- `parse`: "25 step count would pass the allowance, and only then".
-pub record Parses (row : List ℕ) (allowance : ℕ) (g : Got) (r : Parsed) (buf : List ℕ) : Type 0 where
+pub record Parses (row : List ℕ) (allowance : ℕ) (g : Got) (r : Result Tree ParseError) (buf : List ℕ) : Type 0 where
   pub says : ParseSays row allowance g r buf

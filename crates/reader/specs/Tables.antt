@@ -1,11 +1,9 @@
 -- What the code's enums stand for in the reading's tables.
 -- Assumes nothing.
-use Rattle.std.specs.Prelude.{ℕ, suc, ◌≡◌, Bool, true, false, eqb, if◌then◌else◌}
+use Rattle.std.specs.Prelude.{ℕ, suc, ◌≡◌, Bool, true, false, eqb, if◌then◌else◌, Option, Some, None}
 use Rattle.rows.specs.Kinds.{Identifier, NoToken}
 use Rattle.rows.specs.declared.answer.Delimiter.{Delimiter}
 use Rattle.rows.specs.declared.answer.Delimiter.TheVariants.{Parenthesis, Bracket}
-use Rattle.rows.specs.declared.answer.Open.{Open}
-use Rattle.rows.specs.declared.answer.Open.TheVariants.{Nothing, Opened}
 use Rattle.rows.specs.declared.answer.TypeNameError.TheVariants.{UnterminatedGroup, MismatchedClosingDelimiter}
 use Rattle.reader.specs.Nodes.{NodeKind, g_node, b_node}
 use Rattle.reader.specs.Reading.{Region, top, round, square, refusal, Next, ends, stops, token, group, angle, first, starts, next}
@@ -18,10 +16,10 @@ node_of Parenthesis = g_node
 node_of Bracket = b_node
 
 -- The region between the brackets that are open, if any are.
-abbrev pub region_of : Open → Region
-region_of Nothing = top
-region_of (Opened Parenthesis) = round
-region_of (Opened Bracket) = square
+abbrev pub region_of : Option Delimiter → Region
+region_of None = top
+region_of (Some Parenthesis) = round
+region_of (Some Bracket) = square
 
 -- `next` at round and square, where `close` closes the region and `other` closes the other one.
 unfoldable pub in_group : (cpp : Bool) (close other : ℕ) (after_identifier : Bool) (k at : ℕ) → Next
@@ -33,7 +31,7 @@ in_group cpp close other after_identifier k at =
 
 -- How a node at a token of kind k begins.
 unfoldable pub started : (k : ℕ) → Start → Next
-started k (Start.Group d) = group (node_of d) (region_of (Opened d))
+started k (Start.Group d) = group (node_of d) (region_of (Some d))
 started k Start.Angle = angle
 started k Start.Token = token (eqb k Identifier)
 

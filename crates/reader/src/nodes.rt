@@ -3,7 +3,7 @@
 ghost use Rattle.std.specs.Prelude.{◌≡◌, ◌+◌, ◌*◌, ◌≤◌, ◌<◌, ◌^◌, ◌∷◌, length, drop, set};
 ghost use Rattle.reader.specs.Nodes.{extent_of, kind_of, node_width, Recorded, token_of, numbers_bound};
 
-// A node's numbers: kind, token number, extent.
+// A node's numbers: kind, token number, extent. They are what C reads: three `u32` a node in the buffer that it lends, and no struct.
 pub const NODE_WIDTH: usize = 3;
 
 // Refusal 6: the tree buffer has fewer numbers for each token.
@@ -19,13 +19,6 @@ pub const LIST_NODE: u32 = 3;
 
 pub const ARGUMENT_NODE: u32 = 4;
 
-pub fn wide(number: u32) -> usize
-    ensures value { result ≡ number }
-    ensures small { result < 2 ^ 32 }
-{
-    number as usize
-}
-
 // The kind of a node, by its number.
 pub fn node_kind(tree: &[u32], node: usize) -> u32
     requires { Recorded tree.now node }
@@ -39,7 +32,7 @@ pub fn node_token(tree: &[u32], node: usize) -> usize
     ensures value { result ≡ token_of tree.now node }
     ensures small { result < 2 ^ 32 }
 {
-    wide(tree[NODE_WIDTH * node + 1])
+    tree[NODE_WIDTH * node + 1] as usize
 }
 
 pub fn node_extent(tree: &[u32], node: usize) -> usize
@@ -47,7 +40,7 @@ pub fn node_extent(tree: &[u32], node: usize) -> usize
     ensures value { result ≡ extent_of tree.now node }
     ensures small { result < 2 ^ 32 }
 {
-    wide(tree[NODE_WIDTH * node + 2])
+    tree[NODE_WIDTH * node + 2] as usize
 }
 
 // Writes a node record at the front of `tree`.

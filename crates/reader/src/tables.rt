@@ -7,7 +7,7 @@ ghost use Rattle.reader.specs.Reading.{is_angle_close, kind_at, starts, top};
 ghost use Rattle.reader.specs.Tables.{Plans, PlansGroup, region_of, node_of, started};
 
 use crate::nodes::{BRACKETS_NODE, PARENTHESES_NODE};
-use rows::answer::{Delimiter, Open, TypeNameError};
+use rows::answer::{Delimiter, TypeNameError};
 use rows::kinds;
 
 // How a node begins.
@@ -62,6 +62,7 @@ pub fn argument_ends(lists: usize, kind: u8, half: bool) -> bool
     is_angle_close(lists, kind, half)
 }
 
+// No `From`: neither type is this crate's.
 pub fn group_kind(delimiter: Delimiter) -> u32
     ensures { result ≡ number (node_of delimiter) }
 {
@@ -105,16 +106,21 @@ fn bracket_step(close: u8, other: u8, kind: u8, at: usize) -> GroupStep
 }
 
 // What is to be done at a token of the row, or of the group that is open.
-pub fn group_step(end: Open, kind: u8, at: usize) -> GroupStep
+pub fn group_step(end: Option<Delimiter>, kind: u8, at: usize) -> GroupStep
     requires { at ≤ numbers_bound }
     ensures { Plans result (region_of end) kind at }
 {
-    let Open::Opened(delimiter) = end else {
-        return row_step(kind, at);
-    };
-    match delimiter {
-        Delimiter::Parenthesis => bracket_step(kinds::RIGHT_PAREN, kinds::RIGHT_BRACKET, kind, at),
-        Delimiter::Bracket => bracket_step(kinds::RIGHT_BRACKET, kinds::RIGHT_PAREN, kind, at),
+    match end {
+        None => row_step(kind, at),
+        Some(Delimiter::Parenthesis) => {
+            bracket_step(kinds::RIGHT_PAREN, kinds::RIGHT_BRACKET, kind, at)
+        }
+        Some(Delimiter::Bracket) => bracket_step(
+            kinds::RIGHT_BRACKET,
+            kinds::RIGHT_PAREN,
+            kind,
+            at,
+        ),
     }
 }
 

@@ -12,14 +12,12 @@ fn first_difference(expected: &[u32], given: &[u32]) -> usize
     ensures value { result ≡ first_difference expected.now given.now }
     ensures within { result ≤ length expected.now }
 {
-    let mut at = 0;
-    while at < expected.len() {
+    for at in 0..expected.len() {
         if expected[at] != given[at] {
             return at;
         }
-        at += 1;
     }
-    at
+    expected.len()
 }
 
 // Whether all numbers agree; if not, prints the first that does not.

@@ -175,8 +175,8 @@ fn replay_next(rt: &HostRuntime, case: usize) -> io::Result<Outcome> {
 fn main(rt: HostRuntime) -> io::Result<()> {
     let mut replayed: usize = 0;
     let mut differing: usize = 0;
-    while replayed < MOST_CASES {
-        match replay_next(&rt, replayed)? {
+    for case in 0..MOST_CASES {
+        match replay_next(&rt, case)? {
             Outcome::Same => {}
             Outcome::Differs => differing += 1,
             Outcome::End => break,

@@ -23,9 +23,7 @@ pub fn put_numbers(stored: &[u8], count: usize, behind: u32, list: &mut [u32])
     requires { number_bytes * count ≤ length stored.now }
     ensures { list.new ≡ numbers stored.now count behind (length list.old) }
 {
-    let mut i = 0;
-    while i < list.len() {
+    for i in 0..list.len() {
         list[i] = number_at(stored, count, behind, i);
-        i += 1;
     }
 }

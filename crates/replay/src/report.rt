@@ -1,13 +1,14 @@
 // What `replay` prints. No contract can speak of what is written to standard output: a `print_` function says nothing, and the text that it writes is said
-// by the `put_` function above it.
+// by the `put_` function above it. No `Display`, for the same reason as in the listing.
 
 ghost use Rattle.std.specs.Prelude.{◌+◌, ◌≤◌, length};
-ghost use Rattle.text.specs.Text.{Appended, most_digits};
+ghost use Rattle.text.specs.Text.{most_digits};
+ghost use Rattle.text.specs.Puts.{Puts};
 ghost use Rattle.replay.specs.Report.{difference, labelled, line_length, part_length, place_length, place_text, total, values_length, values_text};
 
 use std::io;
 use std::io::Write;
-use text::{MOST_DIGITS, put_bytes, put_decimal};
+use text::{MOST_DIGITS, Text};
 
 // The longest name of a part, `returned`.
 const PART_LENGTH: usize = 8;
@@ -26,48 +27,48 @@ const VALUES_LENGTH: usize = VALUES_WORDS + MOST_DIGITS + MOST_DIGITS;
 const LINE_LENGTH: usize = PLACE_LENGTH + VALUES_LENGTH;
 
 // A number behind its label.
-fn put_labelled(text: &mut [u8], at: usize, label: &[u8], number: usize) -> usize
-    requires { at + length label.now + most_digits ≤ length text.old }
-    ensures { Appended text.old at (labelled label.now number) result text.new }
+fn put_labelled(text: &mut Text, label: &[u8], number: usize)
+    requires { text.old.end + length label.now + most_digits ≤ length text.old.bytes.now }
+    ensures { Puts text.old (labelled label.now number) text.new }
 {
-    let after_label = put_bytes(text, at, label);
-    put_decimal(text, after_label, number)
+    text.put_bytes(label);
+    text.put_decimal(number);
 }
 
-fn put_place(text: &mut [u8], case: usize, part: &[u8], place: usize) -> usize
-    requires { (place_length ≤ length text.old) × (length part.now ≤ part_length) }
-    ensures { Appended text.old 0 (place_text case part.now place) result text.new }
+fn put_place(text: &mut Text, case: usize, part: &[u8], place: usize)
+    requires { (text.old.end + place_length ≤ length text.old.bytes.now) × (length part.now ≤ part_length) }
+    ensures { Puts text.old (place_text case part.now place) text.new }
 {
-    let after_case = put_labelled(text, 0, b"case ", case);
-    let after_comma = put_bytes(text, after_case, b", ");
-    let after_part = put_bytes(text, after_comma, part);
-    put_labelled(text, after_part, b" ", place)
+    put_labelled(text, b"case ", case);
+    text.put_bytes(b", ");
+    text.put_bytes(part);
+    put_labelled(text, b" ", place);
 }
 
-fn put_values(text: &mut [u8], at: usize, expected: u32, given: u32) -> usize
-    requires { at + values_length ≤ length text.old }
-    ensures { Appended text.old at (values_text expected given) result text.new }
+fn put_values(text: &mut Text, expected: u32, given: u32)
+    requires { text.old.end + values_length ≤ length text.old.bytes.now }
+    ensures { Puts text.old (values_text expected given) text.new }
 {
-    let after_expected = put_labelled(text, at, b": expected ", expected as usize);
-    let after_given = put_labelled(text, after_expected, b", got ", given as usize);
-    put_bytes(text, after_given, b"\n")
+    put_labelled(text, b": expected ", expected as usize);
+    put_labelled(text, b", got ", given as usize);
+    text.put_bytes(b"\n");
 }
 
 // `case 7, buffer 3: expected 1, got 0`: number 3 of the buffer after case 7, both counted from 0.
 fn put_difference(
-    text: &mut [u8],
+    text: &mut Text,
     case: usize,
     part: &[u8],
     place: usize,
     expected: u32,
     given: u32,
-) -> usize
-    requires { (line_length ≤ length text.old) × (length part.now ≤ part_length) }
-    ensures appended { Appended text.old 0 (difference case part.now place expected given) result text.new }
-    ensures within { result ≤ line_length }
+)
+    requires { (text.old.end + line_length ≤ length text.old.bytes.now) × (length part.now ≤ part_length) }
+    ensures put { Puts text.old (difference case part.now place expected given) text.new }
+    ensures within { text.new.end ≤ text.old.end + line_length }
 {
-    let at = put_place(text, case, part, place);
-    put_values(text, at, expected, given)
+    put_place(text, case, part, place);
+    put_values(text, expected, given);
 }
 
 // A line that cannot be written is left out, and the case counts all the same.
@@ -81,26 +82,30 @@ pub fn print_difference(
 )
     requires { length part.now ≤ part_length }
 {
-    let mut text = [0u8; LINE_LENGTH];
-    let end = put_difference(&mut text, case, part, place, expected, given);
-    let _ = rt.stdout().write_all(&text[..end]);
+    let mut line = [0u8; LINE_LENGTH];
+    let mut text = Text::new(&mut line);
+    put_difference(&mut text, case, part, place, expected, given);
+    let end = text.len();
+    let _ = rt.stdout().write_all(&line[..end]);
 }
 
-fn put_total(text: &mut [u8], replayed: usize, differing: usize) -> usize
-    requires { line_length ≤ length text.old }
-    ensures appended { Appended text.old 0 (total replayed differing) result text.new }
-    ensures within { result ≤ line_length }
+fn put_total(text: &mut Text, replayed: usize, differing: usize)
+    requires { text.old.end + line_length ≤ length text.old.bytes.now }
+    ensures put { Puts text.old (total replayed differing) text.new }
+    ensures within { text.new.end ≤ text.old.end + line_length }
 {
-    let after_number = put_decimal(text, 0, replayed);
-    let after_replayed = put_bytes(text, after_number, b" replayed, ");
-    let after_differing = put_decimal(text, after_replayed, differing);
-    put_bytes(text, after_differing, b" differ\n")
+    text.put_decimal(replayed);
+    text.put_bytes(b" replayed, ");
+    text.put_decimal(differing);
+    text.put_bytes(b" differ\n");
 }
 
 pub fn print_total(rt: &HostRuntime, replayed: usize, differing: usize) -> io::Result<()> {
-    let mut text = [0u8; LINE_LENGTH];
-    let end = put_total(&mut text, replayed, differing);
-    rt.stdout().write_all(&text[..end])
+    let mut line = [0u8; LINE_LENGTH];
+    let mut text = Text::new(&mut line);
+    put_total(&mut text, replayed, differing);
+    let end = text.len();
+    rt.stdout().write_all(&line[..end])
 }
 
 pub fn print_cut_off(rt: &HostRuntime) -> io::Result<()> {

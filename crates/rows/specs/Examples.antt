@@ -1,17 +1,16 @@
 -- Computed examples of this crate's definitions, so that a wrong edit of one is refused here.
 -- Assumes nothing.
-use Rattle.std.specs.Prelude.{ℕ, suc, ◌+◌, ◌≡◌, refl, List, [], ◌∷◌, ◌++◌, map, take, replicate}
+use Rattle.std.specs.Prelude.{ℕ, suc, ◌+◌, ◌≡◌, refl, None, Some, List, [], ◌∷◌, ◌++◌, map, take, replicate, Result, Ok, Err}
 use Rattle.rows.specs.Languages.{C, Cpp, Fortran, C89, C18, Fortran2023}
 use Rattle.rows.specs.Kinds.{Identifier, Star}
 use Rattle.rows.specs.Format.{format, old_format, head_length, most_tokens, meant, declared, stands_for}
 use Rattle.rows.specs.Records.{Row, row, refused, head, head_formed, head_with, little_endian, records_from, to_end, tokens_from, after_record, found, well_formed, length_fits, word_fits, word_at, span_end_at, span_start_at, kind_at, length_at, in_range, before_tokens}
 use Rattle.rows.specs.Refusals.{refusal_of, named, plainly, no_token}
 use Rattle.rows.specs.declared.answer.Delimiter.TheVariants.{Parenthesis, Bracket}
-use Rattle.rows.specs.declared.answer.Open.TheVariants.{Nothing, Opened}
+use Rattle.rows.specs.declared.answer.TypeNameError.{TypeNameError}
 use Rattle.rows.specs.declared.answer.TypeNameError.TheVariants.{UnexpectedClosingDelimiter}
 use Rattle.rows.specs.declared.answer.Refusal.{Refusal}
-use Rattle.rows.specs.declared.head.FileHead.{FileHead}
-use Rattle.rows.specs.declared.head.FileHead.TheVariants.{Formed, Refused}
+use Rattle.rows.specs.declared.head.Head.{Head}
 use Rattle.rows.specs.Words.{bytes, word_number, exactly, ignoring_case, other_case, no_word, Known, known, long, _BitInt}
 
 -- Every known word has the number of its name.
@@ -80,11 +79,11 @@ data HeadSaid : Type 0 where
   means : ℕ → HeadSaid
   refuses : ℕ → HeadSaid
 
-said : FileHead → HeadSaid
-said (Formed h) = means h.standard
-said (Refused e) = refuses (refusal_of e).number
+said : Result Head TypeNameError → HeadSaid
+said (Ok h) = means h.standard
+said (Err e) = refuses (refusal_of e).number
 
-int_star_head : head format int_star ≡ Formed (record { language = C; standard = C89; flag = 1; allowance = 9 })
+int_star_head : head format int_star ≡ Ok (record { language = C; standard = C89; flag = 1; allowance = 9 })
 unfolding head head_formed head_with meant declared little_endian int_star head_of record_of sign_of bytes
 int_star_head = refl
 
@@ -169,6 +168,6 @@ words = refl
 
 -- Refusal 11: "0 none, 1 `(` or 2 `[` was open"; the token is named.
 closers : map refusal_of
-    (UnexpectedClosingDelimiter Nothing Parenthesis 5 ∷ UnexpectedClosingDelimiter (Opened Parenthesis) Bracket 6 ∷ UnexpectedClosingDelimiter (Opened Bracket) Parenthesis 7 ∷ [])
+    (UnexpectedClosingDelimiter None Parenthesis 5 ∷ UnexpectedClosingDelimiter (Some Parenthesis) Bracket 6 ∷ UnexpectedClosingDelimiter (Some Bracket) Parenthesis 7 ∷ [])
     ≡ named 11 5 0 ∷ named 11 6 1 ∷ named 11 7 2 ∷ []
 closers = refl

@@ -1,22 +1,19 @@
 -- The numbers of the record file: document 01, "Head record", "Token record" and "Answer record"; document 02, C-14 and C-16.
 -- Assumes nothing.
-use Rattle.std.specs.Prelude.{ℕ, ◌+◌, ◌*◌, ◌≤◌, Bool, not, eqb, ltb, if◌then◌else◌}
+use Rattle.std.specs.Prelude.{ℕ, ◌+◌, ◌*◌, ◌≤◌, Bool, not, Option, Some, None, eqb, ltb, if◌then◌else◌}
 use Rattle.rows.specs.declared.format.SpanWidth.{SpanWidth}
 use Rattle.rows.specs.declared.format.SpanWidth.TheVariants.{Four, Eight}
 use Rattle.rows.specs.declared.format.StandIn.{StandIn}
-use Rattle.rows.specs.declared.format.StandIn.TheVariants.{Nothing, StandsFor}
 use Rattle.rows.specs.declared.format.Format.{Format}
-use Rattle.rows.specs.declared.head.Meaning.{Meaning}
-use Rattle.rows.specs.declared.head.Meaning.TheVariants.{Means, Unknown}
 use Rattle.rows.specs.Languages.{C, Cpp, Fortran, C18, C23, Cpp17, Cpp23, Fortran2018, Fortran2023}
 
 -- "255 means C18, Cpp17 or Fortran2018." C-16: "Release archives relied on C18, Cpp17 and Fortran2018".
 abbrev pub archive_standards : StandIn
-archive_standards = StandsFor C18 Cpp17 Fortran2018
+archive_standards = record { c = C18; cpp = Cpp17; fortran = Fortran2018 }
 
 -- C-16: "C23, Cpp23 and Fortran2023".
 abbrev pub newer_standards : StandIn
-newer_standards = StandsFor C23 Cpp23 Fortran2023
+newer_standards = record { c = C23; cpp = Cpp23; fortran = Fortran2023 }
 
 -- The format that every entry reads; `Format` is the code's struct of the numbers that requests of document 02 change. C-14: "Span start and end become
 -- 8 bytes each ..; the head's kind becomes 261 ..; the file limit becomes 131,072 bytes". C-16: "Standard 255 comes to mean C23, Cpp23 and Fortran2023";
@@ -28,8 +25,8 @@ format =
       span_width = Eight;
       file_limit = 131072;
       greatest_flag = 1;
-      means_254 = archive_standards;
-      means_255 = newer_standards;
+      means_254 = Some archive_standards;
+      means_255 = Some newer_standards;
     }
 
 -- Document 01's format, C-14's "old files", "of at most 65,536 bytes as before". C-16: "Refusal 3 no longer covers 254, save in old files."
@@ -40,8 +37,8 @@ old_format =
       span_width = Four;
       file_limit = 65536;
       greatest_flag = 1;
-      means_254 = Nothing;
-      means_255 = archive_standards;
+      means_254 = None;
+      means_255 = Some archive_standards;
     }
 
 -- ---- the head record: "length (2 bytes, ..), kind (2 bytes, ..), language (1 byte ..), standard (1 byte, ..), structure flag (1 byte, ..), allowance (4 bytes)"
@@ -132,13 +129,13 @@ declared language =
     else 0
 
 -- "A number outside that order counts as the standard it means": what it means in a language.
-unfoldable pub stands_for : (language : ℕ) → StandIn → Meaning
-stands_for language Nothing = Unknown
-stands_for language (StandsFor c cpp fortran) =
-    if eqb language C then Means c
-    else if eqb language Cpp then Means cpp
-    else if eqb language Fortran then Means fortran
-    else Unknown
+unfoldable pub stands_for : (language : ℕ) → Option StandIn → Option ℕ
+stands_for language None = None
+stands_for language (Some standards) =
+    if eqb language C then Some standards.c
+    else if eqb language Cpp then Some standards.cpp
+    else if eqb language Fortran then Some standards.fortran
+    else None
 
 -- The numbers outside that order that a format may know: C-16's "254 names those from now on",
 abbrev pub standard_254 : ℕ
@@ -149,12 +146,12 @@ abbrev pub standard_255 : ℕ
 standard_255 = 255
 
 -- "A number outside that order counts as the standard it means."
-unfoldable pub meant : Format → (language standard : ℕ) → Meaning
+unfoldable pub meant : Format → (language standard : ℕ) → Option ℕ
 meant f language standard =
-    if ltb standard (declared language) then Means standard
+    if ltb standard (declared language) then Some standard
     else if eqb standard standard_255 then stands_for language f.means_255
     else if eqb standard standard_254 then stands_for language f.means_254
-    else Unknown
+    else None
 
 -- Document 01's **later**: "A standard is later than another if its language declares it after that one". Of two standards of one language, each
 -- the one that is meant, the second is the same or later.

@@ -3,6 +3,7 @@ pub mod Languages
 pub mod Kinds
 pub mod Words
 pub mod Refusals
+pub mod Answer
 pub mod Format
 pub mod Records
 pub mod Allowance

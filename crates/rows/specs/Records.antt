@@ -1,18 +1,15 @@
 -- The records of a file in a format: document 01, "Head record" and "Token record". A file is the list of its bytes.
 -- Assumes nothing.
-use Rattle.std.specs.Prelude.{ℕ, zero, suc, ◌+◌, ◌*◌, ◌-◌, Bool, true, false, not, ◌&&◌, List, [], ◌∷◌, map, length, get_or, take, drop, leb, ltb, eqb, if◌then◌else◌}
+use Rattle.std.specs.Prelude.{ℕ, zero, suc, ◌+◌, ◌*◌, ◌-◌, Bool, true, false, not, ◌&&◌, List, [], ◌∷◌, map, length, get_or, take, drop, Option, Some, None, Result, Ok, Err, leb, ltb, eqb, if◌then◌else◌}
 use Rattle.rows.specs.Kinds.{Identifier, End}
 use Rattle.rows.specs.Words.{word_number}
 use Rattle.rows.specs.Format.{short_bytes, allowance_bytes, head_length, at_length, at_kind, at_language, at_standard, at_flag, at_allowance, at_span, span_bytes, token_length, longest_word, least_word_byte, greatest_word_byte, meant}
 use Rattle.rows.specs.declared.format.Format.{Format}
 use Rattle.rows.specs.declared.answer.TypeNameError.{TypeNameError}
 use Rattle.rows.specs.declared.answer.TypeNameError.TheVariants.{FileTooLong, InvalidHead, UnknownProfile, InvalidRecord, TooManyRecords}
-use Rattle.rows.specs.declared.head.Meaning.{Meaning}
-use Rattle.rows.specs.declared.head.Meaning.TheVariants.{Means, Unknown}
+use Rattle.rows.specs.declared.head.Head.{Head}
 use Rattle.rows.specs.declared.token.SourceSpan.{SourceSpan}
 use Rattle.rows.specs.declared.token.TokenRecord.{TokenRecord}
-use Rattle.rows.specs.declared.head.FileHead.{FileHead}
-use Rattle.rows.specs.declared.head.FileHead.TheVariants.{Formed, Refused}
 
 -- A byte is a number below 256.
 abbrev pub byte_values : ℕ
@@ -44,6 +41,10 @@ unfoldable pub in_range : List ℕ → Bool
 in_range [] = true
 in_range (b ∷ bs) = leb least_word_byte b && leb b greatest_word_byte && in_range bs
 
+-- A well-formed token record of this kind and length.
+abbrev pub formed : (kind length : ℕ) → Option TokenRecord
+formed kind length = Some (record { kind = kind; length = length })
+
 -- One token more in front: "Each record in turn".
 unfoldable pub before_tokens : RowToken → Tokens → Tokens
 before_tokens t (malformed offset) = malformed offset
@@ -61,16 +62,16 @@ module _ (f : Format) (file : List ℕ) where
       && leb (get_or file at_flag 0) f.greatest_flag
 
   -- "3 unknown language or standard", or the head with the standard that is meant.
-  unfoldable pub head_with : Meaning → FileHead
-  head_with Unknown = Refused UnknownProfile
-  head_with (Means standard) =
-      Formed (record { language = get_or file at_language 0; standard = standard; flag = get_or file at_flag 0; allowance = little_endian allowance_bytes file at_allowance })
+  unfoldable pub head_with : Option ℕ → Result Head TypeNameError
+  head_with None = Err UnknownProfile
+  head_with (Some standard) =
+      Ok (record { language = get_or file at_language 0; standard = standard; flag = get_or file at_flag 0; allowance = little_endian allowance_bytes file at_allowance })
 
   -- The place "File" of the table: refusals 1, 2 and 3 in this order.
-  unfoldable pub head : FileHead
+  unfoldable pub head : Result Head TypeNameError
   head =
-      if ltb f.file_limit (length file) then Refused FileTooLong
-      else if not head_formed then Refused InvalidHead
+      if ltb f.file_limit (length file) then Err FileTooLong
+      else if not head_formed then Err InvalidHead
       else head_with (meant f (get_or file at_language 0) (get_or file at_standard 0))
 
   -- ---- token records: refusals 4 and 5
@@ -119,19 +120,19 @@ module _ (f : Format) (file : List ℕ) where
       && leb (span_start_at at) (span_end_at at)
       && length_fits at
 
-  -- "Each record in turn": the record at a byte offset, or that none is well formed there.
-  unfoldable pub found : (at : ℕ) → TokenRecord
-  found at = if well_formed at then TokenRecord.Formed (kind_at at) (length_at at) else TokenRecord.Malformed
+  -- "Each record in turn": the record at a byte offset, if a well-formed one stands there.
+  unfoldable pub found : (at : ℕ) → Option TokenRecord
+  found at = if well_formed at then formed (kind_at at) (length_at at) else None
 
   -- The word of the record at a byte offset, "that part of the caller's file"; empty where none stands.
-  unfoldable pub word_in : (at : ℕ) → TokenRecord → List ℕ
-  word_in at TokenRecord.Malformed = []
-  word_in at (TokenRecord.Formed kind length) = word_at at
+  unfoldable pub word_in : (at : ℕ) → Option TokenRecord → List ℕ
+  word_in at None = []
+  word_in at (Some r) = word_at at
 
   -- A "record malformed", or its token before what the records after it give.
-  unfoldable pub after_record : (at : ℕ) → TokenRecord → (ℕ → Tokens) → Tokens
-  after_record at TokenRecord.Malformed rest = malformed at
-  after_record at (TokenRecord.Formed kind length) rest = before_tokens (record { place = at; kind = kind; word = word_at at }) (rest (at + length))
+  unfoldable pub after_record : (at : ℕ) → Option TokenRecord → (ℕ → Tokens) → Tokens
+  after_record at None rest = malformed at
+  after_record at (Some r) rest = before_tokens (record { place = at; kind = r.kind; word = word_at at }) (rest (at + r.length))
 
   -- "Each record in turn" from a byte offset on, at most so many, and none behind the file's end.
   unfoldable pub tokens_from : (most at : ℕ) → Tokens

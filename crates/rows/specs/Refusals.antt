@@ -1,9 +1,8 @@
 -- The number, token and detail of each refusal: document 01, "Answer record".
 -- Assumes nothing.
-use Rattle.std.specs.Prelude.{ℕ}
+use Rattle.std.specs.Prelude.{ℕ, Option, Some, None}
+use Rattle.rows.specs.declared.answer.Delimiter.{Delimiter}
 use Rattle.rows.specs.declared.answer.Delimiter.TheVariants.{Parenthesis, Bracket}
-use Rattle.rows.specs.declared.answer.Open.{Open}
-use Rattle.rows.specs.declared.answer.Open.TheVariants.{Nothing, Opened}
 use Rattle.rows.specs.declared.answer.Feature.{Feature}
 use Rattle.rows.specs.declared.answer.Feature.TheVariants.{LongLong, Atomic, BitInt, Typeof, TypeofUnqual, Decltype, RvalueReference, Selector, DerivedType, Class, AssumedTypeOrRank}
 use Rattle.rows.specs.declared.answer.Refusal.{Refusal}
@@ -15,10 +14,10 @@ abbrev pub no_token : ℕ
 no_token = 65535
 
 -- Refusal 11's detail: "0 none, 1 `(` or 2 `[` was open".
-abbrev pub open_detail : Open → ℕ
-open_detail Nothing = 0
-open_detail (Opened Parenthesis) = 1
-open_detail (Opened Bracket) = 2
+abbrev pub open_detail : Option Delimiter → ℕ
+open_detail None = 0
+open_detail (Some Parenthesis) = 1
+open_detail (Some Bracket) = 2
 
 -- Refusal 40's detail: the list behind "feature".
 abbrev pub feature_detail : Feature → ℕ

@@ -1,12 +1,11 @@
 -- What the row reader answers, and what it leaves in the lent arrays: document 01, "Token record".
 -- Assumes nothing.
-use Rattle.std.specs.Prelude.{ℕ, ◌≤◌, ◌<◌, ◌^◌, ◌≡◌, List, length, take, drop}
+use Rattle.std.specs.Prelude.{ℕ, ◌≤◌, ◌<◌, ◌^◌, ◌≡◌, List, length, take, drop, Result, Ok, Err}
 use Rattle.rows.specs.declared.format.Format.{Format}
 use Rattle.rows.specs.Records.{RowToken, malformed, tokens, tokens_from, refused, row, records_from, kinds_of, words_of, places_of}
 use Rattle.rows.specs.declared.row.RecordsRead.{RecordsRead}
-use Rattle.rows.specs.declared.row.RecordsRead.TheVariants as Records
-use Rattle.rows.specs.declared.row.RowRead.{RowRead}
-use Rattle.rows.specs.declared.row.RowRead.TheVariants as Row
+use Rattle.rows.specs.declared.row.MalformedRecord.{MalformedRecord}
+use Rattle.rows.specs.declared.answer.TypeNameError.{TypeNameError}
 
 -- What the row reader is lent: a file whose byte offsets fit 32 bits, and arrays with room for the most tokens.
 pub record Room (file : List ℕ) (most : ℕ) (kinds words places : List ℕ) : Type 0 where
@@ -41,19 +40,19 @@ module _ (f : Format) (file : List ℕ) (begin most : ℕ) (kinds words places :
     pub in_arrays : InArrays taken count kinds words places kinds' words' places'
 
   -- The tokens stand in the arrays, or a record is malformed where the definition has it so.
-  abbrev pub RecordsAnswered : RecordsRead → (kinds' words' places' : List ℕ) → Type 0
-  RecordsAnswered (Records.Tokens count next) kinds' words' places' = RecordsTaken count next kinds' words' places'
-  RecordsAnswered (Records.Malformed offset) kinds' words' places' = tokens_from f file most begin ≡ malformed offset
+  abbrev pub RecordsAnswered : Result RecordsRead MalformedRecord → (kinds' words' places' : List ℕ) → Type 0
+  RecordsAnswered (Ok r) kinds' words' places' = RecordsTaken r.count r.next kinds' words' places'
+  RecordsAnswered (Err e) kinds' words' places' = tokens_from f file most begin ≡ malformed e.offset
 
   -- The row stands in the arrays, or it is refused as the definition refuses it.
-  abbrev pub RowAnswered : RowRead → (kinds' words' places' : List ℕ) → Type 0
-  RowAnswered (Row.Tokens count) kinds' words' places' = RowTaken count kinds' words' places'
-  RowAnswered (Row.Refused e) kinds' words' places' = records_from f file most begin ≡ refused e
+  abbrev pub RowAnswered : Result ℕ TypeNameError → (kinds' words' places' : List ℕ) → Type 0
+  RowAnswered (Ok count) kinds' words' places' = RowTaken count kinds' words' places'
+  RowAnswered (Err e) kinds' words' places' = records_from f file most begin ≡ refused e
 
   -- `read_records`. What the arrays hold after a refusal is free: they keep their lengths, and nothing else is said.
-  pub record ReadsRecords (r : RecordsRead) (kinds' words' places' : List ℕ) : Type 0 where
+  pub record ReadsRecords (r : Result RecordsRead MalformedRecord) (kinds' words' places' : List ℕ) : Type 0 where
     pub answered : RecordsAnswered r kinds' words' places'
 
   -- `read_row`. What the arrays hold after a refusal is free, as above.
-  pub record Reads (r : RowRead) (kinds' words' places' : List ℕ) : Type 0 where
+  pub record Reads (r : Result ℕ TypeNameError) (kinds' words' places' : List ℕ) : Type 0 where
     pub answered : RowAnswered r kinds' words' places'

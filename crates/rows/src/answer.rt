@@ -2,23 +2,17 @@
 // the cases for the file, its records and the buffer are added, and each reason of `InvalidSyntax` is a case of its own.
 
 ghost use Rattle.std.specs.Prelude.{◌≡◌};
+ghost use Rattle.rows.specs.Answer.{unread};
 ghost use Rattle.rows.specs.Refusals.{feature_detail, named, open_detail, plainly, refusal_of};
 
-#[derive(Clone, Copy)]
+#[derive(Clone, Copy, PartialEq, Eq)]
 pub enum Delimiter {
     Parenthesis,
     Bracket,
 }
 
-// The innermost bracket open at a token, if one is.
-#[derive(Clone, Copy)]
-pub enum Open {
-    Nothing,
-    Opened(Delimiter),
-}
-
 // What a type name may use and a standard may lack.
-#[derive(Clone, Copy)]
+#[derive(Clone, Copy, PartialEq, Eq)]
 pub enum Feature {
     LongLong,
     Atomic,
@@ -33,7 +27,7 @@ pub enum Feature {
     AssumedTypeOrRank,
 }
 
-#[derive(Clone, Copy)]
+#[derive(Clone, Copy, PartialEq, Eq)]
 pub enum TypeNameError {
     FileTooLong,
     InvalidHead,
@@ -46,8 +40,9 @@ pub enum TypeNameError {
     OffsetOver32Bits,
     InvalidNameList,
     Empty,
+    // `expected` is the innermost bracket open at the token, if one is.
     UnexpectedClosingDelimiter {
-        expected: Open,
+        expected: Option<Delimiter>,
         actual: Delimiter,
         token: u32,
     },
@@ -82,11 +77,29 @@ pub enum TypeNameError {
     NoRuleMatches,
 }
 
+// A tree of so many nodes, and the steps that were taken.
 #[derive(Clone, Copy)]
-pub enum Answer {
-    Accepted { nodes: u32, steps: u32 },
-    Refused { error: TypeNameError, steps: u32 },
+pub struct Accepted {
+    pub nodes: u32,
+    pub steps: u32,
 }
+
+#[derive(Clone, Copy)]
+pub struct Refused {
+    pub error: TypeNameError,
+    pub steps: u32,
+}
+
+// What is refused before a row is read takes no step.
+impl From<TypeNameError> for Refused {
+    ghost from_gives = { λ error refused. refused ≡ unread error };
+
+    fn from(error: TypeNameError) -> Refused {
+        Refused { error, steps: 0 }
+    }
+}
+
+pub type Answer = Result<Accepted, Refused>;
 
 // A refusal's number, token and detail, as users of the answer record see them.
 #[derive(Clone, Copy)]
@@ -96,7 +109,7 @@ pub struct Refusal {
     pub detail: u32,
 }
 
-// Stands where a refusal names no token.
+// Stands where a refusal names no token: a number, and no `None`, in the answer record that C reads.
 pub const NO_TOKEN: u32 = 65535;
 
 fn plain(number: u32) -> Refusal
@@ -121,18 +134,18 @@ fn detailed(number: u32, token: u32, detail: u32) -> Refusal
     }
 }
 
-pub fn open_detail(expected: Open) -> u32
+// No `From`: neither `Option` nor `u32` is this crate's.
+pub fn open_detail(expected: Option<Delimiter>) -> u32
     ensures { result ≡ open_detail expected }
 {
-    let Open::Opened(delimiter) = expected else {
-        return 0;
-    };
-    match delimiter {
-        Delimiter::Parenthesis => 1,
-        Delimiter::Bracket => 2,
+    match expected {
+        None => 0,
+        Some(Delimiter::Parenthesis) => 1,
+        Some(Delimiter::Bracket) => 2,
     }
 }
 
+// Named as the other detail is.
 pub fn feature_detail(feature: Feature) -> u32
     ensures { result ≡ feature_detail feature }
 {
@@ -151,7 +164,7 @@ pub fn feature_detail(feature: Feature) -> u32
     }
 }
 
-// The table of refusals: document 01's, and document 02's new numbers.
+// The table of refusals: document 01's, and document 02's new numbers. The definition has this name too: a `From` would have another.
 pub fn refusal_of(error: TypeNameError) -> Refusal
     ensures { result ≡ refusal_of error }
 {

@@ -1,28 +1,9 @@
-// Bytes: the numbers of a record, "All record numbers are little-endian", and two runs of bytes compared.
+// Bytes: the numbers of a record, "All record numbers are little-endian", and two runs of bytes compared. Each width is one call of std; one function with
+// the width as its parameter would need a loop.
 
 ghost use Rattle.std.specs.Prelude.{◌≡◌, ◌+◌, ◌^◌, ◌<◌, ◌≤◌, length};
 ghost use Rattle.rows.specs.Records.{byte_values, little_endian};
 ghost use Rattle.rows.specs.Words.{same_exactly};
-
-// How many numbers so many bytes can be.
-const ONE_BYTE: usize = 256;
-
-const TWO_BYTES: usize = 65536;
-
-const FOUR_BYTES: usize = 4294967296;
-
-pub fn wide(byte: u8) -> usize
-    ensures value { result ≡ byte }
-    ensures small { result < byte_values }
-{
-    byte as usize
-}
-
-pub fn wide_two(number: u16) -> usize
-    ensures { result ≡ number }
-{
-    number as usize
-}
 
 // The number of two bytes at a byte offset.
 pub fn two_bytes(file: &[u8], at: usize) -> usize
@@ -30,7 +11,7 @@ pub fn two_bytes(file: &[u8], at: usize) -> usize
     ensures value { result ≡ little_endian 2 file.now at }
     ensures small { result < byte_values ^ 2 }
 {
-    wide(file[at]) + ONE_BYTE * wide(file[at + 1])
+    usize::from(u16::from_le_bytes([file[at], file[at + 1]]))
 }
 
 // The number of four bytes at a byte offset.
@@ -39,7 +20,7 @@ pub fn four_bytes(file: &[u8], at: usize) -> usize
     ensures value { result ≡ little_endian 4 file.now at }
     ensures small { result < byte_values ^ 4 }
 {
-    two_bytes(file, at) + TWO_BYTES * two_bytes(file, at + 2)
+    u32::from_le_bytes([file[at], file[at + 1], file[at + 2], file[at + 3]]) as usize
 }
 
 // The number of eight bytes at a byte offset.
@@ -47,21 +28,20 @@ pub fn eight_bytes(file: &[u8], at: usize) -> usize
     requires { at + 8 ≤ length file.now }
     ensures { result ≡ little_endian 8 file.now at }
 {
-    four_bytes(file, at) + FOUR_BYTES * four_bytes(file, at + 4)
+    u64::from_le_bytes([
+        file[at],
+        file[at + 1],
+        file[at + 2],
+        file[at + 3],
+        file[at + 4],
+        file[at + 5],
+        file[at + 6],
+        file[at + 7],
+    ]) as usize
 }
 
 pub fn same_bytes(first: &[u8], second: &[u8]) -> bool
     ensures { result ≡ same_exactly first.now second.now }
 {
-    if first.len() != second.len() {
-        return false;
-    }
-    let mut i = 0;
-    while i < first.len() {
-        if first[i] != second[i] {
-            return false;
-        }
-        i += 1;
-    }
-    true
+    first == second
 }

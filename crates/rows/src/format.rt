@@ -15,9 +15,10 @@ pub enum SpanWidth {
 
 // What a standard's number outside the declared order means in each language.
 #[derive(Clone, Copy)]
-pub enum StandIn {
-    Nothing,
-    StandsFor { c: u8, cpp: u8, fortran: u8 },
+pub struct StandIn {
+    pub c: u8,
+    pub cpp: u8,
+    pub fortran: u8,
 }
 
 #[derive(Clone, Copy)]
@@ -26,8 +27,8 @@ pub struct Format {
     pub span_width: SpanWidth,
     pub file_limit: u32,
     pub greatest_flag: u8,
-    pub means_254: StandIn,
-    pub means_255: StandIn,
+    pub means_254: Option<StandIn>,
+    pub means_255: Option<StandIn>,
 }
 
 pub const AT_SPAN: usize = 4;
@@ -36,7 +37,7 @@ pub const AT_SPAN: usize = 4;
 fn archive_standards() -> StandIn
     ensures { result ≡ archive_standards }
 {
-    StandIn::StandsFor {
+    StandIn {
         c: languages::C18,
         cpp: languages::CPP17,
         fortran: languages::FORTRAN2018,
@@ -47,7 +48,7 @@ fn archive_standards() -> StandIn
 fn newer_standards() -> StandIn
     ensures { result ≡ newer_standards }
 {
-    StandIn::StandsFor {
+    StandIn {
         c: languages::C23,
         cpp: languages::CPP23,
         fortran: languages::FORTRAN2023,
@@ -63,8 +64,8 @@ pub fn current() -> Format
         span_width: SpanWidth::Eight,
         file_limit: 131072,
         greatest_flag: 1,
-        means_254: archive_standards(),
-        means_255: newer_standards(),
+        means_254: Some(archive_standards()),
+        means_255: Some(newer_standards()),
     }
 }
 
@@ -77,11 +78,12 @@ pub fn old() -> Format
         span_width: SpanWidth::Four,
         file_limit: 65536,
         greatest_flag: 1,
-        means_254: StandIn::Nothing,
-        means_255: archive_standards(),
+        means_254: None,
+        means_255: Some(archive_standards()),
     }
 }
 
+// No `From`, which would not say that the number is one of bytes.
 pub fn span_bytes(width: SpanWidth) -> usize
     ensures value { result ≡ bytes_of width }
     ensures small { result ≤ bytes_of Eight }

@@ -24,7 +24,7 @@ pub const AT_FLAG: usize = 6;
 
 pub const AT_ALLOWANCE: usize = 7;
 
-// Numbers outside the order in which standards are declared, which a format may know.
+// Numbers outside the order in which standards are declared, which a format may know: bytes of the head record that a caller hands over, and no enum.
 pub const STANDARD_254: u8 = 254;
 
 pub const STANDARD_255: u8 = 255;
@@ -39,19 +39,6 @@ pub struct Head {
     pub standard: u8,
     pub flag: u8,
     pub allowance: u32,
-}
-
-#[derive(Clone, Copy)]
-pub enum FileHead {
-    Formed(Head),
-    Refused(TypeNameError),
-}
-
-// What a standard's number means in a language.
-#[derive(Clone, Copy)]
-pub enum Meaning {
-    Means(u8),
-    Unknown,
 }
 
 // How many standards the language declares.
@@ -70,39 +57,36 @@ fn declared_standards(language: u8) -> u8
     0
 }
 
-fn stands_for(language: u8, number: StandIn) -> Meaning
+fn stands_for(language: u8, number: Option<StandIn>) -> Option<u8>
     ensures { result ≡ stands_for language number }
 {
-    let StandIn::StandsFor { c, cpp, fortran } = number else {
-        return Meaning::Unknown;
-    };
+    let StandIn { c, cpp, fortran } = number?;
     if language == languages::C {
-        return Meaning::Means(c);
+        return Some(c);
     }
     if language == languages::CPP {
-        return Meaning::Means(cpp);
+        return Some(cpp);
     }
     if language == languages::FORTRAN {
-        return Meaning::Means(fortran);
+        return Some(fortran);
     }
-    Meaning::Unknown
+    None
 }
 
-pub fn meant_standard(format: Format, language: u8, standard: u8) -> Meaning
+// What a standard's number means in a language.
+pub fn meant_standard(format: Format, language: u8, standard: u8) -> Option<u8>
     ensures { result ≡ meant format language standard }
 {
     if standard < declared_standards(language) {
-        return Meaning::Means(standard);
+        return Some(standard);
     }
     if standard == STANDARD_255 {
-        let meaning = format.means_255;
-        return stands_for(language, meaning);
+        return stands_for(language, format.means_255);
     }
     if standard == STANDARD_254 {
-        let meaning = format.means_254;
-        return stands_for(language, meaning);
+        return stands_for(language, format.means_254);
     }
-    Meaning::Unknown
+    None
 }
 
 // Whether the flag asks for the structure check.
@@ -113,32 +97,32 @@ pub fn asks_structure(flag: u8) -> bool
 }
 
 // The head of a file, or refusal 1, 2 or 3.
-pub fn read_head(format: Format, file: &[u8]) -> FileHead
+pub fn read_head(format: Format, file: &[u8]) -> Result<Head, TypeNameError>
     ensures { result ≡ head format file.now }
 {
     if (format.file_limit as usize) < file.len() {
-        return FileHead::Refused(TypeNameError::FileTooLong);
+        return Err(TypeNameError::FileTooLong);
     }
     if file.len() < HEAD_LENGTH {
-        return FileHead::Refused(TypeNameError::InvalidHead);
+        return Err(TypeNameError::InvalidHead);
     }
     if two_bytes(file, AT_LENGTH) != HEAD_LENGTH {
-        return FileHead::Refused(TypeNameError::InvalidHead);
+        return Err(TypeNameError::InvalidHead);
     }
     if two_bytes(file, AT_KIND) != format.head_kind {
-        return FileHead::Refused(TypeNameError::InvalidHead);
+        return Err(TypeNameError::InvalidHead);
     }
     let flag = file[AT_FLAG];
     if format.greatest_flag < flag {
-        return FileHead::Refused(TypeNameError::InvalidHead);
+        return Err(TypeNameError::InvalidHead);
     }
     let language = file[AT_LANGUAGE];
     let found = meant_standard(format, language, file[AT_STANDARD]);
-    let Meaning::Means(standard) = found else {
-        return FileHead::Refused(TypeNameError::UnknownProfile);
+    let Some(standard) = found else {
+        return Err(TypeNameError::UnknownProfile);
     };
     let allowance = four_bytes(file, AT_ALLOWANCE) as u32;
-    FileHead::Formed(Head {
+    Ok(Head {
         language,
         standard,
         flag,

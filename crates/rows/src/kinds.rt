@@ -1,4 +1,5 @@
-// Token kinds: document 01, "Token record": the place of each in `TokenKind`.
+// Token kinds: document 01, "Token record": the place of each in `TokenKind`. Numbers, and no enum: `prescan_row`, `parse` and
+// `validate_structured_syntax` promise an answer for every byte as a kind.
 
 pub const IDENTIFIER: u8 = 0;
 

@@ -1,4 +1,5 @@
-// Languages and standards by number: document 01, "Head record".
+// Languages and standards by number: document 01, "Head record". Numbers, and no enum: `prescan_row`, `validate_structured_syntax` and
+// `validate_profile_features` promise an answer for every byte as a language or a standard.
 
 pub const C: u8 = 0;
 

@@ -11,20 +11,21 @@ use crate::words::number_of_word;
 // Refusal 5: a record more begins.
 pub const MOST_TOKENS: usize = 1024;
 
-// `next`: where the records after these begin.
+// How many records were read, and where those after them begin.
 #[derive(Clone, Copy)]
-pub enum RecordsRead {
-    Tokens { count: usize, next: usize },
-    Malformed { offset: usize },
+pub struct RecordsRead {
+    pub count: usize,
+    pub next: usize,
 }
 
+// The byte offset of the first record that is malformed.
 #[derive(Clone, Copy)]
-pub enum RowRead {
-    Tokens(usize),
-    Refused(TypeNameError),
+pub struct MalformedRecord {
+    pub offset: usize,
 }
 
-// The token records from a byte offset on, at most so many: each token's kind, word number and byte offset.
+// The token records from a byte offset on, at most so many: each token's kind, word number and byte offset. Three arrays, lent by the caller, and no list
+// of tokens: the library has no heap, and the checks look through each by itself.
 pub fn read_records(
     format: Format,
     file: &[u8],
@@ -33,7 +34,7 @@ pub fn read_records(
     kinds: &mut [u8],
     words: &mut [u8],
     places: &mut [u32],
-) -> RecordsRead
+) -> Result<RecordsRead, MalformedRecord>
     requires { Room file.now most kinds.old words.old places.old }
     ensures { ReadsRecords format file.now begin most kinds.old words.old places.old result kinds.new words.new places.new }
 {
@@ -42,11 +43,11 @@ pub fn read_records(
     let mut count: usize = 0;
     while at < file.len() {
         if count == most {
-            return RecordsRead::Tokens { count, next: at };
+            return Ok(RecordsRead { count, next: at });
         }
         let found = token_at(format, file, at);
-        let TokenRecord::Formed { kind, length } = found else {
-            return RecordsRead::Malformed { offset: at };
+        let Some(TokenRecord { kind, length }) = found else {
+            return Err(MalformedRecord { offset: at });
         };
         let word = at + plain;
         let next = at + length;
@@ -56,7 +57,7 @@ pub fn read_records(
         count += 1;
         at = next;
     }
-    RecordsRead::Tokens { count, next: at }
+    Ok(RecordsRead { count, next: at })
 }
 
 // The row from a byte offset to the file's end, of at most so many tokens.
@@ -68,20 +69,20 @@ pub fn read_row(
     kinds: &mut [u8],
     words: &mut [u8],
     places: &mut [u32],
-) -> RowRead
+) -> Result<usize, TypeNameError>
     requires { Room file.now most kinds.old words.old places.old }
     ensures { Reads format file.now begin most kinds.old words.old places.old result kinds.new words.new places.new }
 {
     let read = read_records(format, file, begin, most, kinds, words, places);
     match read {
-        RecordsRead::Malformed { offset } => RowRead::Refused(TypeNameError::InvalidRecord {
+        Err(MalformedRecord { offset }) => Err(TypeNameError::InvalidRecord {
             offset: offset as u32,
         }),
-        RecordsRead::Tokens { count, next } => {
+        Ok(RecordsRead { count, next }) => {
             if next < file.len() {
-                return RowRead::Refused(TypeNameError::TooManyRecords);
+                return Err(TypeNameError::TooManyRecords);
             }
-            RowRead::Tokens(count)
+            Ok(count)
         }
     }
 }

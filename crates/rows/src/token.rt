@@ -15,61 +15,25 @@ const LEAST_WORD_BYTE: u8 = 33;
 
 const GREATEST_WORD_BYTE: u8 = 126;
 
-// What stands at a byte offset: a token record of this kind and length, or a malformed one.
+// A well-formed token record: its kind and its length.
 #[derive(Clone, Copy)]
-pub enum TokenRecord {
-    Formed { kind: u8, length: usize },
-    Malformed,
+pub struct TokenRecord {
+    pub kind: u8,
+    pub length: usize,
 }
 
-// The byte at a byte offset may stand in a word.
-fn byte_fits(word: &[u8], at: usize) -> bool
-    requires { at < length word.now }
-    ensures { result ≡ in_range (take 1 (drop at word.now)) }
-{
-    let byte = word[at];
-    (LEAST_WORD_BYTE <= byte) & (byte <= GREATEST_WORD_BYTE)
-}
-
-// The two bytes from a byte offset on may.
-fn two_fit(word: &[u8], at: usize) -> bool
-    requires { at + 2 ≤ length word.now }
-    ensures { result ≡ in_range (take 2 (drop at word.now)) }
-{
-    byte_fits(word, at) & byte_fits(word, at + 1)
-}
-
-// The four bytes from a byte offset on may.
-fn four_fit(word: &[u8], at: usize) -> bool
-    requires { at + 4 ≤ length word.now }
-    ensures { result ≡ in_range (take 4 (drop at word.now)) }
-{
-    two_fit(word, at) & two_fit(word, at + 2)
-}
-
-// The eight bytes from a byte offset on may.
-fn eight_fit(word: &[u8], at: usize) -> bool
-    requires { at + 8 ≤ length word.now }
-    ensures { result ≡ in_range (take 8 (drop at word.now)) }
-{
-    four_fit(word, at) & four_fit(word, at + 4)
-}
-
-// All bytes may. All are tested, even behind one that may not: so the compiler tests many at once.
+// Every byte may stand in a word. All are tested, even behind one that may not: so the compiler tests many at once.
 fn all_fit(word: &[u8]) -> bool
     ensures { result ≡ in_range word.now }
 {
     let mut fits = true;
-    let mut i = 0;
-    while i < word.len() {
-        let byte = word[i];
+    for &byte in word {
         fits = fits & (LEAST_WORD_BYTE <= byte) & (byte <= GREATEST_WORD_BYTE);
-        i += 1;
     }
     fits
 }
 
-// Every byte may stand in a word. A first and a last group cover most words and may overlap: they take no loop.
+// Every byte may stand in a word. A first and a last group of a fixed length cover most words and may overlap: the compiler makes no loop of them.
 pub fn is_word(word: &[u8]) -> bool
     ensures { result ≡ in_range word.now }
 {
@@ -78,13 +42,13 @@ pub fn is_word(word: &[u8]) -> bool
         return all_fit(word);
     }
     if size < 8 {
-        return four_fit(word, 0) & four_fit(word, size - 4);
+        return all_fit(&word[..4]) & all_fit(&word[size - 4..]);
     }
     if size <= 16 {
-        return eight_fit(word, 0) & eight_fit(word, size - 8);
+        return all_fit(&word[..8]) & all_fit(&word[size - 8..]);
     }
     let eights = size - size % 8;
-    all_fit(&word[..eights]) & eight_fit(word, size - 8)
+    all_fit(&word[..eights]) & all_fit(&word[size - 8..])
 }
 
 // The number of a span at a byte offset.
@@ -148,33 +112,33 @@ fn length_fits(format: Format, file: &[u8], at: usize, kind: usize, size: usize)
     size == token_length(format)
 }
 
-// The token record at any byte offset.
-pub fn token_at(format: Format, file: &[u8], at: usize) -> TokenRecord
+// The token record at any byte offset, if a well-formed one stands there.
+pub fn token_at(format: Format, file: &[u8], at: usize) -> Option<TokenRecord>
     ensures { result ≡ found format file.now at }
 {
     let plain = token_length(format);
     if file.len() < plain {
-        return TokenRecord::Malformed;
+        return None;
     }
     if file.len() - plain < at {
-        return TokenRecord::Malformed;
+        return None;
     }
     let kind = two_bytes(file, at + AT_KIND);
     if (kinds::END as usize) < kind {
-        return TokenRecord::Malformed;
+        return None;
     }
     let span = span(format, file, at);
     if span.end < span.start {
-        return TokenRecord::Malformed;
+        return None;
     }
     let length = two_bytes(file, at);
     if length_fits(format, file, at, kind, length) {
-        return TokenRecord::Formed {
+        return Some(TokenRecord {
             kind: kind as u8,
             length,
-        };
+        });
     }
-    TokenRecord::Malformed
+    None
 }
 
 // The word of the token record at any byte offset, as that part of the caller's file; empty where no word stands.
@@ -182,7 +146,7 @@ pub fn word(format: Format, file: &[u8], place: usize) -> &[u8]
     ensures { result.now ≡ word_in format file.now place (found format file.now place) }
 {
     let found = token_at(format, file, place);
-    let TokenRecord::Formed { kind: _, length } = found else {
+    let Some(TokenRecord { kind: _, length }) = found else {
         return &file[..0];
     };
     let begin = place + token_length(format);

@@ -1,4 +1,5 @@
-// The known words by number, and which word a number stands for: specs/Words.antt.
+// The known words by number, and which word a number stands for: specs/Words.antt. Numbers, and no enum: `validate_structured_syntax` and
+// `validate_profile_features` promise an answer for every byte as a word number.
 
 ghost use Rattle.std.specs.Prelude.{◌≡◌};
 ghost use Rattle.rows.specs.Words.{exactly, ignoring_case};

@@ -1,5 +1,7 @@
 -- Computed examples, worked out by hand from document 02, C-11, so that a wrong edit of a definition is refused here.
 -- Assumes nothing.
+use Rattle.rule_answers.specs.OverlapAnswer.{overlaps, no_further, overlap_refuses}
+use Rattle.rule_answers.specs.MatchAnswer.{matches_with, match_refuses, MatchAnswer}
 use Rattle.std.specs.Prelude.{ℕ, ◌≡◌, refl, true, false, List, [], ◌∷◌, take, replicate}
 use Rattle.rows.specs.Kinds.{Identifier, Less, Greater}
 use Rattle.rows.specs.Records.{RowToken}
@@ -15,9 +17,6 @@ use Rattle.rules.specs.Overlaps.{shown, items_bytes, longest_shown}
 use Rattle.rule_answers.specs.MatchAnswers.{matched, by_table, match_answer, match_buffer}
 use Rattle.rule_answers.specs.OverlapAnswers.{shown_bytes}
 use Rattle.rule_answers.specs.AnswerNumbers.{match_numbers, match_code, overlap_numbers, overlap_code}
-use Rattle.rule_answers.specs.declared.matching.MatchAnswer.{MatchAnswer}
-use Rattle.rule_answers.specs.declared.matching.MatchAnswer.TheVariants.{Matched, Refused}
-use Rattle.rule_answers.specs.declared.overlap.OverlapAnswer.TheVariants as OverlapAnswer
 
 -- ---- matching
 
@@ -39,7 +38,7 @@ unfolding file_first_line match_answer match_buffer winner seen table_of rules_f
 matching file rules room = match_answer file rules room
 
 -- `int` goes by rule 1, and its tree is left.
-int_wins : matching (int_file 2) table 6 ≡ Matched 1 2 1
+int_wins : matching (int_file 2) table 6 ≡ matches_with 1 2 1
 unfolding matching
 int_wins = refl
 
@@ -61,7 +60,7 @@ unfolding matching
 list_wins = refl
 
 -- No rule at all: 51 after 2 steps, and zeros.
-none_wins : matching (int_file 2) [] 6 ≡ Refused NoRuleMatches 2
+none_wins : matching (int_file 2) [] 6 ≡ match_refuses NoRuleMatches 2
 unfolding matching
 none_wins = refl
 
@@ -70,12 +69,12 @@ unfolding matching
 none_left = refl
 
 -- One step short of the allowance: 25 before 51.
-spent : matching (int_file 1) [] 6 ≡ Refused AllowancePassed 1
+spent : matching (int_file 1) [] 6 ≡ match_refuses AllowancePassed 1
 unfolding matching
 spent = refl
 
 -- A bad table: 50 before 10, and zeros; 6 before 50, and the buffer stays.
-empty_row : matching (take 11 (int_file 2)) bad_table 5 ≡ Refused InvalidRuleTable 0
+empty_row : matching (take 11 (int_file 2)) bad_table 5 ≡ match_refuses InvalidRuleTable 0
 unfolding matching
 empty_row = refl
 
@@ -83,7 +82,7 @@ empty_row_left : match_buffer (take 11 (int_file 2)) bad_table (replicate 5 7) �
 unfolding matching
 empty_row_left = refl
 
-short : matching (int_file 2) bad_table 5 ≡ Refused ShortBuffer 0
+short : matching (int_file 2) bad_table 5 ≡ match_refuses ShortBuffer 0
 unfolding matching
 short = refl
 
@@ -92,16 +91,16 @@ unfolding matching
 short_left = refl
 
 -- A table of the form and an empty row: 10.
-empty_row_refused : matching (take 11 (int_file 2)) table 5 ≡ Refused Empty 0
+empty_row_refused : matching (take 11 (int_file 2)) table 5 ≡ match_refuses Empty 0
 unfolding matching
 empty_row_refused = refl
 
 -- As numbers: 3 nodes after 5 steps by rule 2; 51 after 2 steps.
-as_numbers : match_numbers (Matched 3 5 2) ∷ match_numbers (Refused NoRuleMatches 2) ∷ [] ≡ (0 ∷ 3 ∷ 5 ∷ 2 ∷ []) ∷ (51 ∷ 65535 ∷ 0 ∷ 2 ∷ []) ∷ []
+as_numbers : match_numbers (matches_with 3 5 2) ∷ match_numbers (match_refuses NoRuleMatches 2) ∷ [] ≡ (0 ∷ 3 ∷ 5 ∷ 2 ∷ []) ∷ (51 ∷ 65535 ∷ 0 ∷ 2 ∷ []) ∷ []
 unfolding match_numbers
 as_numbers = refl
 
-codes : match_code (Matched 3 5 2) ∷ match_code (Refused InvalidRuleTable 0) ∷ [] ≡ 0 ∷ 50 ∷ []
+codes : match_code (matches_with 3 5 2) ∷ match_code (match_refuses InvalidRuleTable 0) ∷ [] ≡ 0 ∷ 50 ∷ []
 unfolding match_code
 codes = refl
 
@@ -147,22 +146,22 @@ most_shown : longest_shown ≡ 4112
 most_shown = refl
 
 -- The pair (1, 3) in 5 bytes; no further pair; refusals 50 and 6, which name no token.
-pair_numbers : overlap_numbers (OverlapAnswer.Overlap 1 3 5) ≡ 0 ∷ 1 ∷ 3 ∷ 5 ∷ []
+pair_numbers : overlap_numbers (overlaps 1 3 5) ≡ 0 ∷ 1 ∷ 3 ∷ 5 ∷ []
 unfolding overlap_numbers
 pair_numbers = refl
 
-no_further_numbers : overlap_numbers OverlapAnswer.NoFurther ≡ 0 ∷ 0 ∷ 0 ∷ 0 ∷ []
+no_further_numbers : overlap_numbers no_further ≡ 0 ∷ 0 ∷ 0 ∷ 0 ∷ []
 unfolding overlap_numbers
 no_further_numbers = refl
 
-no_table_numbers : overlap_numbers (OverlapAnswer.Refused InvalidRuleTable) ≡ 50 ∷ 65535 ∷ 0 ∷ 0 ∷ []
+no_table_numbers : overlap_numbers (overlap_refuses InvalidRuleTable) ≡ 50 ∷ 65535 ∷ 0 ∷ 0 ∷ []
 unfolding overlap_numbers
 no_table_numbers = refl
 
-short_numbers : overlap_numbers (OverlapAnswer.Refused ShortBuffer) ≡ 6 ∷ 65535 ∷ 0 ∷ 0 ∷ []
+short_numbers : overlap_numbers (overlap_refuses ShortBuffer) ≡ 6 ∷ 65535 ∷ 0 ∷ 0 ∷ []
 unfolding overlap_numbers
 short_numbers = refl
 
-overlap_codes : (overlap_code (OverlapAnswer.Overlap 1 3 5) ≡ 0) × (overlap_code OverlapAnswer.NoFurther ≡ 0) × (overlap_code (OverlapAnswer.Refused InvalidRuleTable) ≡ 50) × (overlap_code (OverlapAnswer.Refused ShortBuffer) ≡ 6)
+overlap_codes : (overlap_code (overlaps 1 3 5) ≡ 0) × (overlap_code no_further ≡ 0) × (overlap_code (overlap_refuses InvalidRuleTable) ≡ 50) × (overlap_code (overlap_refuses ShortBuffer) ≡ 6)
 unfolding overlap_code
 overlap_codes = (refl, refl, refl, refl)

@@ -1,7 +1,9 @@
+pub mod MatchAnswer
 pub mod MatchAnswers
 pub mod MatchPromises
 pub mod MatchSays
 pub mod RowPlaces
+pub mod OverlapAnswer
 pub mod OverlapAnswers
 pub mod OverlapSays
 pub mod OverlapWalks

@@ -1,5 +1,6 @@
 -- Which rule of a table wins for a file's row, and the final tree buffer: document 02, C-11.
 -- Assumes nothing.
+use Rattle.rule_answers.specs.MatchAnswer.{matches_with, match_refuses, MatchAnswer}
 use Rattle.std.specs.Prelude.{ℕ, List, length}
 use Rattle.rows.specs.Format.{format}
 use Rattle.rows.specs.Records.{RowToken}
@@ -12,8 +13,6 @@ use Rattle.type_name.specs.Answers
 use Rattle.rules.specs.Rules.{Rule, Winner, no_winner, wins, winner}
 use Rattle.rules.specs.Seen.{seen}
 use Rattle.rules.specs.RuleTable.{TableFound, no_table, a_table, table_of}
-use Rattle.rule_answers.specs.declared.matching.MatchAnswer.{MatchAnswer}
-use Rattle.rule_answers.specs.declared.matching.MatchAnswer.TheVariants.{Matched, Refused}
 
 -- What is answered to a row and a table: the row's tree, the steps taken and the winner's place, or a refusal and the steps up to it.
 pub data RuleAnswer : Type 0 where
@@ -49,9 +48,9 @@ match_outcome file rules room = entry_outcome format (row_match rules) file room
 
 -- Matched: node count, steps, "place from 0".
 unfoldable pub match_in : Outcome RuleAnswer → MatchAnswer
-match_in (untouched e) = Refused e 0
-match_in (passes (matched x m place)) = Matched (count x) m place
-match_in (passes (refused e m)) = Refused e m
+match_in (untouched e) = match_refuses e 0
+match_in (passes (matched x m place)) = matches_with (count x) m place
+match_in (passes (refused e m)) = match_refuses e m
 
 -- The answer to any file and any table, with a tree buffer of any length.
 unfoldable pub match_answer : (file rules : List ℕ) (room : ℕ) → MatchAnswer

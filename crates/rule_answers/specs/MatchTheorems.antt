@@ -1,5 +1,6 @@
 -- What is proved of a match, on one page. The proofs are in Laws/.
 -- Assumes nothing.
+use Rattle.rule_answers.specs.MatchAnswer.{MatchAnswer}
 use Rattle.std.specs.Prelude.{ℕ, ◌<◌, ◌≡◌, List, length, T}
 use Rattle.rules.specs.Rules.{Rule, Node, matches, no_winner, wins, winner}
 use Rattle.rules.specs.Overlaps.{rule}
@@ -7,7 +8,6 @@ use Rattle.rules.specs.Laws.Winners as Winners
 use Rattle.rule_answers.specs.MatchAnswers.{match_answer, match_buffer}
 use Rattle.rule_answers.specs.MatchPromises.{MatchPromised}
 use Rattle.rule_answers.specs.Laws.Promised as Laws
-use Rattle.rule_answers.specs.declared.matching.MatchAnswer.{MatchAnswer}
 
 -- "The first rule that matches all top-level nodes wins": the winner matches, and no earlier rule does;
 pub winner_matches : (rs : List Rule) (ns : List Node) (place : ℕ) → winner rs ns ≡ wins place

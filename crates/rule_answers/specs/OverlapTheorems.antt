@@ -1,5 +1,6 @@
 -- What is proved of the answers to a search for an overlap, on one page: each theorem with what it means. The proofs are in Laws/ and in crate `rules`.
 -- Assumes nothing.
+use Rattle.rule_answers.specs.OverlapAnswer.{overlaps, no_further, overlap_refuses, OverlapAnswer}
 use Rattle.std.specs.Prelude.{ℕ, ◌≤◌, ◌<◌, ◌^◌, ◌≡◌, ◌↔◌, false, List, length, take, drop, T}
 use Rattle.rows.specs.declared.answer.TypeNameError.{TypeNameError}
 use Rattle.rows.specs.declared.answer.TypeNameError.TheVariants.{InvalidRuleTable, ShortBuffer}
@@ -12,8 +13,6 @@ use Rattle.rule_answers.specs.OverlapWalks.{NextPair, Calls, CallsAnswered}
 use Rattle.rule_answers.specs.Laws.Overlaps as Overlaps
 use Rattle.rule_answers.specs.Laws.FirstPairs as FirstPairs
 use Rattle.rule_answers.specs.Laws.Walks as Walks
-use Rattle.rule_answers.specs.declared.overlap.OverlapAnswer.{OverlapAnswer}
-use Rattle.rule_answers.specs.declared.overlap.OverlapAnswer.TheVariants.{Overlap, NoFurther, Refused}
 
 -- ---- one call
 
@@ -28,15 +27,15 @@ module _ (rules : List ℕ) (e l : ℕ) (before after : List ℕ) where
   one_answer a a' after' = Overlaps.one_answer
 
   -- "no refusal touches it",
-  pub refused_untouched : (error : TypeNameError) → OverlapTold rules e l before (Refused error) after → after ≡ before
+  pub refused_untouched : (error : TypeNameError) → OverlapTold rules e l before (overlap_refuses error) after → after ≡ before
   refused_untouched error = Overlaps.refused_untouched
 
   -- and nor does the answer that there is no further pair.
-  pub no_further_untouched : OverlapTold rules e l before NoFurther after → after ≡ before
+  pub no_further_untouched : OverlapTold rules e l before no_further after → after ≡ before
   no_further_untouched = Overlaps.no_further_untouched
 
   -- "50 rule table not of this form or of over 256 rules": before all else.
-  pub not_of_the_form : (a : OverlapAnswer) → table_of rules ≡ no_table → OverlapTold rules e l before a after → a ≡ Refused InvalidRuleTable
+  pub not_of_the_form : (a : OverlapAnswer) → table_of rules ≡ no_table → OverlapTold rules e l before a after → a ≡ overlap_refuses InvalidRuleTable
   not_of_the_form a = Overlaps.not_of_the_form
 
 -- ---- one call, to a table of the form
@@ -44,15 +43,15 @@ module _ (rules : List ℕ) (e l : ℕ) (before after : List ℕ) where
 module _ (rules : List ℕ) (rs : List Rule) (is : table_of rules ≡ a_table rs) where
   module _ (e l : ℕ) (before after : List ℕ) where
     -- The pair that is reported overlaps, and is the first after the pair handed in: "one a call, by earlier, then later place".
-    pub first_reported : (i j bytes : ℕ) → OverlapTold rules e l before (Overlap i j bytes) after → FirstAfter rs e l i j
+    pub first_reported : (i j bytes : ℕ) → OverlapTold rules e l before (overlaps i j bytes) after → FirstAfter rs e l i j
     first_reported i j bytes = Overlaps.first_reported rules is
 
     -- If there is no further pair, none overlaps after the pair handed in.
-    pub none_left : OverlapTold rules e l before NoFurther after → NoneAfter rs e l
+    pub none_left : OverlapTold rules e l before no_further after → NoneAfter rs e l
     none_left = Overlaps.none_left rules is
 
     -- "A short byte buffer for output is 6, checked last": the only refusal, and only if the next pair's sequence is longer than the buffer.
-    pub only_short : (error : TypeNameError) → OverlapTold rules e l before (Refused error) after → (error ≡ ShortBuffer) × TooShort rs e l before
+    pub only_short : (error : TypeNameError) → OverlapTold rules e l before (overlap_refuses error) after → (error ≡ ShortBuffer) × TooShort rs e l before
     only_short error = Overlaps.only_short rules is
 
     -- 4,112 bytes are enough: then the next pair is reported or that there is none.
@@ -60,7 +59,7 @@ module _ (rules : List ℕ) (rs : List Rule) (is : table_of rules ≡ a_table rs
     enough a = Overlaps.enough rules is
 
     -- The bytes that are shown stand in front, and "bytes past the output stay".
-    pub shown_in_front : (i j bytes : ℕ) → OverlapTold rules e l before (Overlap i j bytes) after
+    pub shown_in_front : (i j bytes : ℕ) → OverlapTold rules e l before (overlaps i j bytes) after
         → (take bytes after ≡ shown_bytes rs i j) × (drop bytes after ≡ drop bytes before)
     shown_in_front i j bytes = Overlaps.shown_in_front rules is
 

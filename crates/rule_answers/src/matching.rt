@@ -3,64 +3,61 @@
 ghost use Rattle.std.specs.Prelude.{◌≡◌, length, leb};
 ghost use Rattle.rows.specs.Refusals.{refusal_of};
 ghost use Rattle.type_name.specs.Promises.{last_untouched};
-ghost use Rattle.rules.specs.TableStands.{RulesRead};
 ghost use Rattle.rule_answers.specs.MatchAnswers.{match_answer};
 ghost use Rattle.rule_answers.specs.MatchSays.{AnswerLeft, TreeLeft, WinnerSays, left_by};
 ghost use Rattle.rule_answers.specs.MatchPromises.{MatchPromised};
 
 use crate::row_places::read_places;
-use rows::answer::{Answer, TypeNameError, refusal_of};
+use rows::answer::{Accepted, Answer, Refused, TypeNameError, refusal_of};
 use rows::row::MOST_TOKENS;
-use rules::table::{MOST_STARTS, TableRead, read_table};
-use rules::winner::{WinnerFound, find_winner};
+use rules::row_text::RowText;
+use rules::table::{MOST_STARTS, RuleTable, read_table};
 use type_name::buffer::settle;
 use type_name::entry::parse_type_name;
 
 // "Refusals 1 to 6 don't touch the tree buffer".
 const LAST_UNTOUCHED: u32 = 6;
 
+// The tree's nodes, the steps, and the place of the rule that wins.
 #[derive(Clone, Copy)]
-pub enum MatchAnswer {
-    Matched { nodes: u32, steps: u32, place: u32 },
-    Refused { error: TypeNameError, steps: u32 },
+pub struct Matched {
+    pub nodes: u32,
+    pub steps: u32,
+    pub place: u32,
 }
+
+pub type MatchAnswer = Result<Matched, Refused>;
 
 // Refusal 51, or the rule that wins, for a file that is accepted and its tree, which stands in front of the buffer.
 fn winner_answer(
-    rules: &[u8],
-    starts: &[usize],
-    count: usize,
+    rules: &RuleTable<'_>,
     file: &[u8],
     tree: &[u32],
     nodes: u32,
     steps: u32,
 ) -> MatchAnswer
-    requires { RulesRead rules.now count starts.now × TreeLeft file.now tree.now nodes steps }
-    ensures { WinnerSays rules.now file.now (length tree.now) steps result }
+    requires { TreeLeft file.now tree.now nodes steps }
+    ensures { WinnerSays rules.now.bytes.now file.now (length tree.now) steps result }
 {
     let mut kinds = [0u8; MOST_TOKENS];
     let mut places = [0u32; MOST_TOKENS];
     let tokens = read_places(file, &mut kinds, &mut places);
-    let won = find_winner(
-        rules,
-        starts,
-        count,
+    let row = RowText {
         file,
-        &kinds[..tokens],
-        &places[..tokens],
-        tree,
-        nodes as usize,
-    );
+        kinds: &kinds[..tokens],
+        places: &places[..tokens],
+    };
+    let won = rules.find_winner(&row, tree, nodes as usize);
     match won {
-        WinnerFound::Rule(place) => MatchAnswer::Matched {
+        Some(place) => Ok(Matched {
             nodes,
             steps,
             place: place as u32,
-        },
-        WinnerFound::Nothing => MatchAnswer::Refused {
+        }),
+        None => Err(Refused {
             error: TypeNameError::NoRuleMatches,
             steps,
-        },
+        }),
     }
 }
 
@@ -71,18 +68,16 @@ fn table_answer(file: &[u8], rules: &[u8], tree: &[u32], answer: Answer) -> Matc
 {
     let mut starts = [0usize; MOST_STARTS];
     let read = read_table(rules, &mut starts);
-    let TableRead::Rules(count) = read else {
-        return MatchAnswer::Refused {
-            error: TypeNameError::InvalidRuleTable,
-            steps: 0,
-        };
+    let Some(count) = read else {
+        return Err(Refused::from(TypeNameError::InvalidRuleTable));
     };
-    match answer {
-        Answer::Refused { error, steps } => MatchAnswer::Refused { error, steps },
-        Answer::Accepted { nodes, steps } => {
-            winner_answer(rules, &starts, count, file, tree, nodes, steps)
-        }
-    }
+    let Accepted { nodes, steps } = answer?;
+    let table = RuleTable {
+        bytes: rules,
+        starts: &starts,
+        count,
+    };
+    winner_answer(&table, file, tree, nodes, steps)
 }
 
 // The refusal comes before the row is read.
@@ -97,13 +92,8 @@ fn leaves_buffer(error: TypeNameError) -> bool
 fn settle_match(tree: &mut [u32], answer: MatchAnswer)
     ensures { tree.new ≡ left_by tree.old answer }
 {
-    match answer {
-        MatchAnswer::Matched {
-            nodes: _,
-            steps: _,
-            place: _,
-        } => {}
-        MatchAnswer::Refused { error, steps } => settle(tree, Answer::Refused { error, steps }),
+    if let Err(refused) = answer {
+        settle(tree, Err(refused));
     }
 }
 
@@ -124,10 +114,10 @@ pub fn match_type_name(file: &[u8], rules: &[u8], tree: &mut [u32]) -> MatchAnsw
 {
     let answer = parse_type_name(file, tree);
     match answer {
-        Answer::Accepted { nodes: _, steps: _ } => match_late(file, rules, tree, answer),
-        Answer::Refused { error, steps } => {
-            if leaves_buffer(error) {
-                return MatchAnswer::Refused { error, steps };
+        Ok(_) => match_late(file, rules, tree, answer),
+        Err(refused) => {
+            if leaves_buffer(refused.error) {
+                return Err(refused);
             }
             match_late(file, rules, tree, answer)
         }

@@ -1,15 +1,14 @@
 -- Where items and rules stand in a table's bytes: what contracts say of byte offsets. Document 02, C-11.
 -- Assumes nothing.
-use Rattle.std.specs.Prelude.{ℕ, ◌+◌, ◌-◌, ◌≤◌, ◌≡◌, Bool, true, false, not, ◌&&◌, List, [], ◌∷◌, length, get_or, take, drop, T, eqb, ltb}
+use Rattle.std.specs.Prelude.{ℕ, ◌+◌, ◌-◌, ◌≤◌, ◌≡◌, Bool, true, false, not, ◌&&◌, List, [], ◌∷◌, length, get_or, take, drop, T, eqb, ltb, None, Option, Some}
 use Rattle.rules.specs.Rules.{Item, Rule, good_item}
 use Rattle.rules.specs.RuleTable.{ItemFound, no_item, item, a_rule, most_items, item_bytes, items_from, rest_byte}
 use Rattle.rules.specs.Overlaps.{items_bytes}
-use Rattle.rules.specs.declared.items.ItemRead.{ItemRead}
 
 -- What `item_at` says of the item found.
-abbrev pub item_read : ItemFound → ItemRead
-item_read no_item = ItemRead.Malformed
-item_read (item i next) = ItemRead.Item next
+abbrev pub item_read : ItemFound → Option ℕ
+item_read no_item = None
+item_read (item i next) = Some next
 
 module _ (table : List ℕ) where
   -- The bytes of an item stand from `at` up to `next`.

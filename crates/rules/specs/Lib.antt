@@ -6,5 +6,6 @@ pub mod Overlaps
 pub mod Meeting
 pub mod ItemsStand
 pub mod TableStands
+pub mod OneTable
 pub mod Laws
 pub mod Examples

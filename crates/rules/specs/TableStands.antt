@@ -1,15 +1,12 @@
 -- Where the rules of a table stand, and what the code says of it. Document 02, C-11.
 -- Assumes nothing.
-use Rattle.std.specs.Prelude.{ℕ, ◌+◌, ◌≤◌, ◌<◌, ◌≡◌, Bool, true, false, List, length, get_or}
+use Rattle.rules.specs.declared.pairs.PairPlaces.{PairPlaces}
+use Rattle.std.specs.Prelude.{ℕ, ◌+◌, ◌≤◌, ◌<◌, ◌≡◌, Bool, true, false, List, length, get_or, None, Option, Some}
 use Rattle.rules.specs.Rules.{Rule, Winner, no_winner, wins}
 use Rattle.rules.specs.RuleTable.{RuleFound, no_rule, a_rule, no_table, a_table, at_items, most_rules, table_of}
 use Rattle.rules.specs.Overlaps.{rule, FirstAfter, NoneAfter}
 use Rattle.rules.specs.Meeting.{rules_meet}
 use Rattle.rules.specs.ItemsStand.{RuleStands}
-use Rattle.rules.specs.declared.winner.WinnerFound.{WinnerFound}
-use Rattle.rules.specs.declared.pairs.PairFound.{PairFound}
-use Rattle.rules.specs.declared.table.RuleRead.{RuleRead}
-use Rattle.rules.specs.declared.table.TableRead.{TableRead}
 
 -- A rule was found.
 abbrev pub is_rule : RuleFound → Bool
@@ -17,9 +14,9 @@ is_rule no_rule = false
 is_rule (a_rule r) = true
 
 -- What `rule_at` says of the rule found, whose record ends at `end`.
-abbrev pub rule_read : (end : ℕ) → RuleFound → RuleRead
-rule_read end no_rule = RuleRead.Malformed
-rule_read end (a_rule r) = RuleRead.Rule end
+abbrev pub rule_read : (end : ℕ) → RuleFound → Option ℕ
+rule_read end no_rule = None
+rule_read end (a_rule r) = Some end
 
 -- The records of these rules begin at the byte offsets `starts`, one after the other, and the last ends at the one behind them.
 pub record RulesStand (table starts : List ℕ) (rs : List Rule) : Type 0 where
@@ -35,12 +32,12 @@ pub record RulesRead (table : List ℕ) (count : ℕ) (starts : List ℕ) : Type
   pub stand : RulesStand table starts rules
 
 -- The rules, or that the table is not of the form.
-abbrev pub TableTold : (table : List ℕ) → TableRead → (starts : List ℕ) → Type 0
-TableTold table (TableRead.Rules count) starts = RulesRead table count starts
-TableTold table TableRead.Malformed starts = table_of table ≡ no_table
+abbrev pub TableTold : (table : List ℕ) → Option ℕ → (starts : List ℕ) → Type 0
+TableTold table (Some count) starts = RulesRead table count starts
+TableTold table None starts = table_of table ≡ no_table
 
--- `read_table`. What the lent array holds behind the last rule's end, and after `Malformed`, is free.
-pub record ReadsTable (table : List ℕ) (r : TableRead) (starts : List ℕ) : Type 0 where
+-- `read_table`. What the lent array holds behind the last rule's end, and after `None`, is free.
+pub record ReadsTable (table : List ℕ) (r : Option ℕ) (starts : List ℕ) : Type 0 where
   pub told : TableTold table r starts
 
 -- What a function says of the rules of a table.
@@ -51,18 +48,27 @@ pub record OfTable (table : List ℕ) (P : List Rule → Type 0) : Type 0 where
 abbrev pub places_meet : (rs : List Rule) (i j : ℕ) → Bool
 places_meet rs i j = rules_meet (rule rs i) (rule rs j)
 
--- `first_later`: r is the first place from `from` on, below `count`, at which the rule overlaps that at place i; `count` if there is none.
+-- r is the first place from `from` on, below `count`, at which the rule overlaps that at place i; `count` if there is none.
 pub record FirstLater (rs : List Rule) (i from count r : ℕ) : Type 0 where
   pub bound : r ≤ count
   pub none_before : (j : ℕ) → from ≤ j → j < r → places_meet rs i j ≡ false
   pub found : r < count → (from ≤ r) × (places_meet rs i r ≡ true)
 
+-- `first_later`: where there is such a place, it.
+abbrev pub LaterTold : (rs : List Rule) (i from count : ℕ) → Option ℕ → Type 0
+LaterTold rs i from count (Some j) = (j < count) × FirstLater rs i from count j
+LaterTold rs i from count None = FirstLater rs i from count count
+
+-- A pair of places, as code finds it.
+abbrev pub pair : (earlier later : ℕ) → Option PairPlaces
+pair earlier later = Some (record { earlier = earlier; later = later })
+
 -- `next_pair`.
-abbrev pub PairTold : (rs : List Rule) (e l : ℕ) → PairFound → Type 0
-PairTold rs e l (PairFound.Pair i j) = FirstAfter rs e l i j
-PairTold rs e l PairFound.Nothing = NoneAfter rs e l
+abbrev pub PairTold : (rs : List Rule) (e l : ℕ) → Option PairPlaces → Type 0
+PairTold rs e l (Some p) = FirstAfter rs e l p.earlier p.later
+PairTold rs e l None = NoneAfter rs e l
 
 -- What `find_winner` says of the winner.
-abbrev pub winner_of : WinnerFound → Winner
-winner_of (WinnerFound.Rule place) = wins place
-winner_of WinnerFound.Nothing = no_winner
+abbrev pub winner_of : Option ℕ → Winner
+winner_of (Some place) = wins place
+winner_of None = no_winner

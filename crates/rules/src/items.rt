@@ -4,10 +4,10 @@ ghost use Rattle.std.specs.Prelude.{◌≡◌, Bool, ◌≤◌, ◌<◌, length}
 ghost use Rattle.rules.specs.RuleTable.{item_at, kind_item, word_item};
 ghost use Rattle.rules.specs.ItemsStand.{item_read, OfItem, SomeItem};
 
-use rows::bytes::wide;
 use rows::kinds::END;
 use rows::token::is_word;
 
+// An item's first byte: numbers, and no enum, since `same_bytes` compares two items as they stand in the table that a caller hands over.
 pub const WORD: u8 = 0;
 
 pub const KIND: u8 = 1;
@@ -23,56 +23,49 @@ pub const REST: u8 = 5;
 // Behind an item's byte and the length of its word, or its kind.
 pub const AFTER_TWO: usize = 2;
 
-// An item that counts, and where it ends.
-#[derive(Clone, Copy)]
-pub enum ItemRead {
-    Item(usize),
-    Malformed,
-}
-
-// The word item at a byte offset of a record that ends at `end`.
-fn word_item(table: &[u8], end: usize, at: usize) -> ItemRead
+// Where the word item at a byte offset of a record that ends at `end` ends, if it counts.
+fn word_item(table: &[u8], end: usize, at: usize) -> Option<usize>
     requires { (at < end) × (end ≤ length table.now) }
     ensures { result ≡ item_read (word_item table.now end at) }
 {
     if end - at < AFTER_TWO {
-        return ItemRead::Malformed;
+        return None;
     }
     let from = at + AFTER_TWO;
-    let size = wide(table[at + 1]);
+    let size = usize::from(table[at + 1]);
     if end - from < size {
-        return ItemRead::Malformed;
+        return None;
     }
     if size == 0 {
-        return ItemRead::Malformed;
+        return None;
     }
     let next = from + size;
     if is_word(&table[from..next]) {
-        return ItemRead::Item(next);
+        return Some(next);
     }
-    ItemRead::Malformed
+    None
 }
 
-// The kind item at a byte offset.
-fn kind_item(table: &[u8], end: usize, at: usize) -> ItemRead
+// The same of a kind item.
+fn kind_item(table: &[u8], end: usize, at: usize) -> Option<usize>
     requires { (at < end) × (end ≤ length table.now) }
     ensures { result ≡ item_read (kind_item table.now end at) }
 {
     if end - at < AFTER_TWO {
-        return ItemRead::Malformed;
+        return None;
     }
     let kind = table[at + 1];
     if kind == 0 {
-        return ItemRead::Malformed;
+        return None;
     }
     if END < kind {
-        return ItemRead::Malformed;
+        return None;
     }
-    ItemRead::Item(at + AFTER_TWO)
+    Some(at + AFTER_TWO)
 }
 
-// The item at a byte offset of a record that ends at `end`, if it is one that counts.
-pub fn item_at(table: &[u8], end: usize, at: usize) -> ItemRead
+// Where the item at a byte offset of a record that ends at `end` ends, if it is one that counts.
+pub fn item_at(table: &[u8], end: usize, at: usize) -> Option<usize>
     requires { (at < end) × (end ≤ length table.now) }
     ensures { result ≡ item_read (item_at table.now end at) }
 {
@@ -84,9 +77,9 @@ pub fn item_at(table: &[u8], end: usize, at: usize) -> ItemRead
         return kind_item(table, end, at);
     }
     if byte <= ANY {
-        return ItemRead::Item(at + 1);
+        return Some(at + 1);
     }
-    ItemRead::Malformed
+    None
 }
 
 // Where the item that stands at a byte offset ends.
@@ -96,7 +89,7 @@ pub fn item_end(table: &[u8], at: usize) -> usize
 {
     let byte = table[at];
     if byte == WORD {
-        return at + AFTER_TWO + wide(table[at + 1]);
+        return at + AFTER_TWO + usize::from(table[at + 1]);
     }
     if byte == KIND {
         return at + AFTER_TWO;

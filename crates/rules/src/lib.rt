@@ -6,6 +6,7 @@ pub mod items;
 pub mod matching;
 pub mod overlaps;
 pub mod pairs;
+pub mod row_text;
 pub mod shown;
 pub mod table;
 pub mod winner;

@@ -4,17 +4,17 @@ ghost use Rattle.std.specs.Prelude.{◌≡◌, ◌<◌};
 ghost use Rattle.rules.specs.Rules.{fits, matches};
 ghost use Rattle.rules.specs.Seen.{seen};
 ghost use Rattle.type_nodes.specs.Stands.{NodesStand};
-ghost use Rattle.rules.specs.RowSeen.{OfNodes, SomeRow, first_seen, shape_seen};
+ghost use Rattle.rules.specs.RowSeen.{OfNodes, first_seen, shape_seen};
 ghost use Rattle.rules.specs.ItemsStand.{OfItem, OfRule, SomeItem, SomeRule};
 
 use crate::items::{AFTER_TWO, ANY, GROUP, KIND, WORD, item_end};
 use crate::overlaps::item_counts;
-use reader::nodes::wide;
+use crate::row_text::RowText;
 use rows::bytes::same_bytes;
 use rows::format::current;
 use rows::kinds::IDENTIFIER;
 use rows::token::word;
-use type_nodes::nodes::{Lookup, node_at, node_end};
+use type_nodes::nodes::{Node, node_at, node_end};
 use type_nodes::shapes::{NO_NODE, TEMPLATE_ARGUMENTS};
 
 // The item at a byte offset takes a node of this shape, with this word if it is an identifier.
@@ -47,27 +47,27 @@ fn item_fits(table: &[u8], item: usize, shape: u8, text: &[u8]) -> bool
 fn node_fits(
     table: &[u8],
     item: usize,
-    file: &[u8],
-    kinds: &[u8],
-    places: &[u32],
+    row: &RowText<'_>,
     tree: &[u32],
     at: usize,
     to: usize,
 ) -> bool
-    requires { SomeItem table.now item × (at < to) × NodesStand tree.now kinds.now at to × SomeRow file.now kinds.now places.now }
-    ensures { OfNodes file.now kinds.now places.now tree.now at to (λ row x. OfItem table.now item (λ i _. result ≡ fits i (first_seen row x))) }
+    requires { SomeItem table.now item × (at < to) × NodesStand tree.now row.now.kinds.now at to }
+    ensures { OfNodes row.now.file.now row.now.kinds.now row.now.places.now tree.now at to (λ ts x. OfItem table.now item (λ i _. result ≡ fits i (first_seen ts x))) }
 {
-    let found = node_at(tree, kinds, at, to);
-    let Lookup::Node {
-        shape,
-        token,
-        next: _,
-    } = found
+    let found = node_at(tree, row.kinds, at, to);
+    let Some(
+        Node {
+            shape,
+            token,
+            next: _,
+        },
+    ) = found
     else {
         return false;
     };
-    let place = wide(places[token]);
-    item_fits(table, item, shape, word(current(), file, place))
+    let place = row.places[token] as usize;
+    item_fits(table, item, shape, word(current(), row.file, place))
 }
 
 // The rule whose items stand at a byte offset, up to its record's end, matches all top-level nodes of a tree.
@@ -75,14 +75,12 @@ pub fn rule_matches(
     table: &[u8],
     end: usize,
     begin: usize,
-    file: &[u8],
-    kinds: &[u8],
-    places: &[u32],
+    row: &RowText<'_>,
     tree: &[u32],
     nodes: usize,
 ) -> bool
-    requires { SomeRule table.now end begin × NodesStand tree.now kinds.now 0 nodes × SomeRow file.now kinds.now places.now }
-    ensures { OfNodes file.now kinds.now places.now tree.now 0 nodes (λ row x. OfRule table.now end begin (λ p. result ≡ matches p (seen row x))) }
+    requires { SomeRule table.now end begin × NodesStand tree.now row.now.kinds.now 0 nodes }
+    ensures { OfNodes row.now.file.now row.now.kinds.now row.now.places.now tree.now 0 nodes (λ ts x. OfRule table.now end begin (λ p. result ≡ matches p (seen ts x))) }
 {
     let mut item = begin;
     let mut at = 0;
@@ -90,11 +88,11 @@ pub fn rule_matches(
         if nodes <= at {
             return false;
         }
-        if !node_fits(table, item, file, kinds, places, tree, at, nodes) {
+        if !node_fits(table, item, row, tree, at, nodes) {
             return false;
         }
         item = item_end(table, item);
-        at = node_end(tree, kinds, at, nodes);
+        at = node_end(tree, row.kinds, at, nodes);
     }
     if item < end {
         return true;

@@ -1,7 +1,8 @@
 // The sequence that is shown for two rules, as items in a lent buffer.
 
-ghost use Rattle.std.specs.Prelude.{◌≡◌, ◌&&◌, ◌≤◌, length};
+ghost use Rattle.std.specs.Prelude.{◌≡◌, ◌&&◌, ◌+◌, ◌≤◌, length};
 ghost use Rattle.text.specs.Text.{Appended};
+ghost use Rattle.text.specs.Puts.{Puts};
 ghost use Rattle.rules.specs.Overlaps.{items_bytes, longest_shown, shown, shown_item};
 ghost use Rattle.rules.specs.ItemsStand.{ItemRoom, ItemsRoom, OfItem, OfItems, OfRules, SomeItem, SomeRule, StandsSomewhere, counts};
 ghost use Rattle.rules.specs.RuleTable.{item_bytes};
@@ -10,32 +11,30 @@ use crate::items::{AFTER_TWO, ANY, item_end};
 use crate::overlaps::item_counts;
 use crate::table::MOST_ITEMS;
 use rows::token::LONGEST_WORD;
-use text::put_bytes;
+use text::Text;
 
 // Room for every sequence that is shown.
 pub const LONGEST_SHOWN: usize = MOST_ITEMS * (AFTER_TWO + LONGEST_WORD);
 
-// Puts the item that stands at a byte offset behind the first `at` bytes of the buffer.
-fn put_item(output: &mut [u8], at: usize, table: &[u8], item: usize) -> usize
-    requires { ItemRoom table.now item at output.old }
-    ensures { OfItem table.now item (λ i _. Appended output.old at (item_bytes i) result output.new) }
+// Puts the item that stands at a byte offset.
+fn put_item(output: &mut Text, table: &[u8], item: usize)
+    requires { ItemRoom table.now item output.old.end output.old.bytes.now }
+    ensures { OfItem table.now item (λ i _. Puts output.old (item_bytes i) output.new) }
 {
     let end = item_end(table, item);
-    put_bytes(output, at, &table[item..end])
+    output.put_bytes(&table[item..end]);
 }
 
 // Puts the items that count, from a byte offset of a record to its end.
-fn put_items(output: &mut [u8], begin: usize, table: &[u8], end: usize, item: usize) -> usize
-    requires { ItemsRoom table.now end item begin output.old }
-    ensures { OfItems table.now end item (λ is. Appended output.old begin (items_bytes is) result output.new) }
+fn put_items(output: &mut Text, table: &[u8], end: usize, item: usize)
+    requires { ItemsRoom table.now end item output.old.end output.old.bytes.now }
+    ensures { OfItems table.now end item (λ is. Puts output.old (items_bytes is) output.new) }
 {
-    let mut at = begin;
     let mut x = item;
     while item_counts(table, end, x) {
-        at = put_item(output, at, table, x);
+        put_item(output, table, x);
         x = item_end(table, x);
     }
-    at
 }
 
 // Both rules have an item that counts left.
@@ -60,6 +59,29 @@ fn shown_item(table: &[u8], first: usize, second: usize) -> usize
     first
 }
 
+fn put_both(
+    output: &mut Text,
+    table: &[u8],
+    first: usize,
+    first_end: usize,
+    second: usize,
+    second_end: usize,
+)
+    requires { SomeRule table.now first_end first × SomeRule table.now second_end second × (output.old.end + longest_shown ≤ length output.old.bytes.now) }
+    ensures { OfRules table.now first_end first second_end second (λ p q. Puts output.old (items_bytes (shown p.items q.items)) output.new) }
+{
+    let mut x = first;
+    let mut y = second;
+    while both_count(table, first_end, x, second_end, y) {
+        let item = shown_item(table, x, y);
+        put_item(output, table, item);
+        x = item_end(table, x);
+        y = item_end(table, y);
+    }
+    put_items(output, table, first_end, x);
+    put_items(output, table, second_end, y);
+}
+
 // Puts the sequence that is shown for the rules at two byte offsets in front of the buffer.
 pub fn put_shown(
     output: &mut [u8],
@@ -72,15 +94,7 @@ pub fn put_shown(
     requires { SomeRule table.now first_end first × SomeRule table.now second_end second × (longest_shown ≤ length output.old) }
     ensures { OfRules table.now first_end first second_end second (λ p q. Appended output.old 0 (items_bytes (shown p.items q.items)) result output.new) }
 {
-    let mut at = 0;
-    let mut x = first;
-    let mut y = second;
-    while both_count(table, first_end, x, second_end, y) {
-        let item = shown_item(table, x, y);
-        at = put_item(output, at, table, item);
-        x = item_end(table, x);
-        y = item_end(table, y);
-    }
-    let last = put_items(output, at, table, first_end, x);
-    put_items(output, last, table, second_end, y)
+    let mut items = Text::new(output);
+    put_both(&mut items, table, first, first_end, second, second_end);
+    items.len()
 }

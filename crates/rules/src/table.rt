@@ -2,9 +2,10 @@
 
 ghost use Rattle.std.specs.Prelude.{◌≡◌, ◌+◌, ◌≤◌, ◌<◌, length};
 ghost use Rattle.rules.specs.RuleTable.{items_from, most_items, most_rules, rule_at, rule_length};
-ghost use Rattle.rules.specs.TableStands.{ReadsTable, is_rule, rule_read};
+ghost use Rattle.rules.specs.TableStands.{ReadsTable, RulesRead, is_rule, rule_read};
+ghost use Rattle.rules.specs.OneTable.{RulesRead-prop};
 
-use crate::items::{ItemRead, REST, item_at};
+use crate::items::{REST, item_at};
 use rows::bytes::two_bytes;
 use rows::head::AT_KIND;
 
@@ -20,18 +21,13 @@ const RULE_KIND: usize = 272;
 // Behind a record's length and kind.
 pub const AT_ITEMS: usize = 4;
 
-// Where a rule's record ends.
+// A well-formed table of rules, and where each rule's record begins.
 #[derive(Clone, Copy)]
-pub enum RuleRead {
-    Rule(usize),
-    Malformed,
-}
-
-// How many rules a table has.
-#[derive(Clone, Copy)]
-pub enum TableRead {
-    Rules(usize),
-    Malformed,
+pub struct RuleTable<'a> {
+    pub bytes: &'a [u8],
+    pub starts: &'a [usize],
+    pub count: usize,
+    ghost read: { RulesRead bytes.now count starts.now } by { RulesRead-prop bytes.now count starts.now },
 }
 
 // The bytes from `begin` to `end` are the items of a rule.
@@ -49,7 +45,7 @@ fn items_fill(table: &[u8], end: usize, begin: usize) -> bool
             return at + 1 == end;
         }
         let found = item_at(table, end, at);
-        let ItemRead::Item(next) = found else {
+        let Some(next) = found else {
             return false;
         };
         at = next;
@@ -58,33 +54,33 @@ fn items_fill(table: &[u8], end: usize, begin: usize) -> bool
     true
 }
 
-// The rule whose record begins at a byte offset.
-pub fn rule_at(table: &[u8], at: usize) -> RuleRead
+// Where the rule's record that begins at a byte offset ends, if it is well formed.
+pub fn rule_at(table: &[u8], at: usize) -> Option<usize>
     requires { at ≤ length table.now }
     ensures { result ≡ rule_read (at + rule_length table.now at) (rule_at table.now at) }
 {
     if table.len() - at < AT_ITEMS {
-        return RuleRead::Malformed;
+        return None;
     }
     if two_bytes(table, at + AT_KIND) != RULE_KIND {
-        return RuleRead::Malformed;
+        return None;
     }
     let size = two_bytes(table, at);
     if size <= AT_ITEMS {
-        return RuleRead::Malformed;
+        return None;
     }
     if table.len() - at < size {
-        return RuleRead::Malformed;
+        return None;
     }
     let end = at + size;
     if items_fill(table, end, at + AT_ITEMS) {
-        return RuleRead::Rule(end);
+        return Some(end);
     }
-    RuleRead::Malformed
+    None
 }
 
-// The rules of a table: `starts` gets where each one's record begins, and behind them where the last one ends.
-pub fn read_table(table: &[u8], starts: &mut [usize]) -> TableRead
+// How many rules a well-formed table has: `starts` gets where each one's record begins, and behind them where the last one ends.
+pub fn read_table(table: &[u8], starts: &mut [usize]) -> Option<usize>
     requires { most_rules < length starts.old }
     ensures { ReadsTable table.now result starts.new }
 {
@@ -93,15 +89,15 @@ pub fn read_table(table: &[u8], starts: &mut [usize]) -> TableRead
     starts[0] = 0;
     while at < table.len() {
         if count == MOST_RULES {
-            return TableRead::Malformed;
+            return None;
         }
         let rule = rule_at(table, at);
-        let RuleRead::Rule(end) = rule else {
-            return TableRead::Malformed;
+        let Some(end) = rule else {
+            return None;
         };
         count += 1;
         starts[count] = end;
         at = end;
     }
-    TableRead::Rules(count)
+    Some(count)
 }

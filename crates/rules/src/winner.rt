@@ -5,60 +5,34 @@ ghost use Rattle.type_nodes.specs.Stands.{NodesStand};
 ghost use Rattle.rules.specs.Rules.{matches, winner};
 ghost use Rattle.rules.specs.Seen.{seen};
 ghost use Rattle.rules.specs.Overlaps.{rule};
-ghost use Rattle.rules.specs.RowSeen.{OfNodes, SomeRow};
-ghost use Rattle.rules.specs.TableStands.{OfTable, RulesRead, winner_of};
+ghost use Rattle.rules.specs.RowSeen.{OfNodes};
+ghost use Rattle.rules.specs.TableStands.{OfTable, winner_of};
 
 use crate::matching::rule_matches;
-use crate::table::AT_ITEMS;
+use crate::row_text::RowText;
+use crate::table::{AT_ITEMS, RuleTable};
 
-#[derive(Clone, Copy)]
-pub enum WinnerFound {
-    Rule(usize),
-    Nothing,
-}
-
-// The rule at a place matches all top-level nodes of a tree.
-fn place_matches(
-    table: &[u8],
-    starts: &[usize],
-    count: usize,
-    place: usize,
-    file: &[u8],
-    kinds: &[u8],
-    places: &[u32],
-    tree: &[u32],
-    nodes: usize,
-) -> bool
-    requires { RulesRead table.now count starts.now × (place < count) × NodesStand tree.now kinds.now 0 nodes × SomeRow file.now kinds.now places.now }
-    ensures { OfNodes file.now kinds.now places.now tree.now 0 nodes (λ row x. OfTable table.now (λ rs. result ≡ matches (rule rs place) (seen row x))) }
-{
-    let end = starts[place + 1];
-    let begin = starts[place] + AT_ITEMS;
-    rule_matches(table, end, begin, file, kinds, places, tree, nodes)
-}
-
-// The first rule that matches all top-level nodes of a tree.
-pub fn find_winner(
-    table: &[u8],
-    starts: &[usize],
-    count: usize,
-    file: &[u8],
-    kinds: &[u8],
-    places: &[u32],
-    tree: &[u32],
-    nodes: usize,
-) -> WinnerFound
-    requires { RulesRead table.now count starts.now × NodesStand tree.now kinds.now 0 nodes × SomeRow file.now kinds.now places.now }
-    ensures { OfNodes file.now kinds.now places.now tree.now 0 nodes (λ row x. OfTable table.now (λ rs. winner_of result ≡ winner rs (seen row x))) }
-{
-    let mut place = 0;
-    while place < count {
-        if place_matches(
-            table, starts, count, place, file, kinds, places, tree, nodes,
-        ) {
-            return WinnerFound::Rule(place);
-        }
-        place += 1;
+impl RuleTable<'_> {
+    // The rule at a place matches all top-level nodes of a tree.
+    fn place_matches(&self, place: usize, row: &RowText<'_>, tree: &[u32], nodes: usize) -> bool
+        requires { (place < self.now.count) × NodesStand tree.now row.now.kinds.now 0 nodes }
+        ensures { OfNodes row.now.file.now row.now.kinds.now row.now.places.now tree.now 0 nodes (λ ts x. OfTable self.now.bytes.now (λ rs. result ≡ matches (rule rs place) (seen ts x))) }
+    {
+        let end = self.starts[place + 1];
+        let begin = self.starts[place] + AT_ITEMS;
+        rule_matches(self.bytes, end, begin, row, tree, nodes)
     }
-    WinnerFound::Nothing
+
+    // The first rule that matches all top-level nodes of a tree.
+    pub fn find_winner(&self, row: &RowText<'_>, tree: &[u32], nodes: usize) -> Option<usize>
+        requires { NodesStand tree.now row.now.kinds.now 0 nodes }
+        ensures { OfNodes row.now.file.now row.now.kinds.now row.now.places.now tree.now 0 nodes (λ ts x. OfTable self.now.bytes.now (λ rs. winner_of result ≡ winner rs (seen ts x))) }
+    {
+        for place in 0..self.count {
+            if self.place_matches(place, row, tree, nodes) {
+                return Some(place);
+            }
+        }
+        None
+    }
 }

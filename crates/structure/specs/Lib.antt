@@ -8,5 +8,6 @@ pub mod Syntax
 pub mod RepresentedMoves
 pub mod Allowance
 pub mod VerdictSays
+pub mod OneWay
 pub mod Laws
 pub mod Examples

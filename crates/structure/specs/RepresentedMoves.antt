@@ -1,5 +1,5 @@
 -- What the declared types of the code stand for. Assumes nothing.
-use Rattle.std.specs.Prelude.{ℕ, ◌≤◌, ◌≡◌}
+use Rattle.std.specs.Prelude.{ℕ, ◌≤◌, ◌≡◌, Bool, true, false}
 use Rattle.type_nodes.specs.Moves.{Test, type_name, expression, some_expression, optional_expression, type_or_expression, array_bound, declarator}
 use Rattle.type_nodes.specs.Moves.{arguments, selectors, declarator_or_parameters, Move, stop, on, inside}
 use Rattle.structure.specs.Declarators.{TypeState, type_state, DeclaratorState, declarator_state}
@@ -11,14 +11,9 @@ use Rattle.structure.specs.declared.moves.TypeLoop.{TypeLoop}
 use Rattle.structure.specs.declared.moves.DeclaratorLoop.{DeclaratorLoop}
 use Rattle.structure.specs.declared.moves.ExpressionLoop.{ExpressionLoop}
 use Rattle.structure.specs.declared.moves.FortranLoop.{FortranLoop}
-use Rattle.structure.specs.declared.moves.TypeMove.{TypeMove}
-use Rattle.structure.specs.declared.moves.TypeMove.TheVariants as Y
-use Rattle.structure.specs.declared.moves.DeclaratorMove.{DeclaratorMove}
-use Rattle.structure.specs.declared.moves.DeclaratorMove.TheVariants as D
-use Rattle.structure.specs.declared.moves.ExpressionMove.{ExpressionMove}
-use Rattle.structure.specs.declared.moves.ExpressionMove.TheVariants as E
-use Rattle.structure.specs.declared.moves.FortranMove.{FortranMove}
-use Rattle.structure.specs.declared.moves.FortranMove.TheVariants as F
+use Rattle.structure.specs.declared.moves.FortranInner.{FortranInner}
+use Rattle.structure.specs.declared.moves.Move as Code
+use Rattle.structure.specs.declared.moves.Move.TheVariants.{Stop, On, Inside}
 
 -- What `Inner` asks.
 abbrev pub test_of : Inner → Test
@@ -31,6 +26,10 @@ test_of I.ArrayBound = array_bound
 test_of I.Declarator = declarator
 test_of I.Arguments = arguments
 test_of (I.DeclaratorOrParameters saw_type_word) = declarator_or_parameters saw_type_word
+
+-- What `FortranInner` asks.
+abbrev pub fortran_test_of : FortranInner → Test
+fortran_test_of t = selectors
 
 -- The variables of `validate_c_family_type`.
 abbrev pub type_state_of : TypeLoop → TypeState
@@ -48,35 +47,59 @@ expression_state_of st = expression_state st.expects_operand st.expects_name_aft
 abbrev pub fortran_state_of : FortranLoop → FortranState
 fortran_state_of st = fortran_state st.saw_word st.saw_selector
 
+-- `if !.. { return false; }` of the code: go on if a condition holds.
+unfoldable pub goes_on_if : {S I : Type 0} → Bool → S → Code.Move S I
+goes_on_if true st = On st
+goes_on_if false st = Stop false
+
+-- The same before a test of the nodes below.
+unfoldable pub goes_inside_if : {S I : Type 0} → Bool → I → S → Code.Move S I
+goes_inside_if true t st = Inside t st
+goes_inside_if false t st = Stop false
+
+-- What a loop does at a node, from what its variables and what is asked below a node stand for.
+abbrev pub move_of : {S I T : Type 0} → (state : S → T) → (test : I → Test) → Code.Move S I → Move T
+move_of state test (Stop r) = stop r
+move_of state test (On st) = on (state st)
+move_of state test (Inside t st) = inside (test t) (state st)
+
+-- The moves of the code's `validate_c_family_type`.
+abbrev pub TypeMove : Type 0
+TypeMove = Code.Move TypeLoop Inner
+
 -- What `validate_c_family_type` does at a node.
 abbrev pub type_move_of : TypeMove → Move TypeState
-type_move_of (Y.Stop r) = stop r
-type_move_of (Y.On st) = on (type_state_of st)
-type_move_of (Y.Inside t st) = inside (test_of t) (type_state_of st)
+type_move_of m = move_of type_state_of test_of m
+
+-- The moves of the code's `validate_abstract_declarator`.
+abbrev pub DeclaratorMove : Type 0
+DeclaratorMove = Code.Move DeclaratorLoop Inner
 
 -- What `validate_abstract_declarator` does at a node.
 abbrev pub declarator_move_of : DeclaratorMove → Move DeclaratorState
-declarator_move_of (D.Stop r) = stop r
-declarator_move_of (D.On st) = on (declarator_state_of st)
-declarator_move_of (D.Inside t st) = inside (test_of t) (declarator_state_of st)
+declarator_move_of m = move_of declarator_state_of test_of m
+
+-- The moves of the code's `validate_expression`.
+abbrev pub ExpressionMove : Type 0
+ExpressionMove = Code.Move ExpressionLoop Inner
 
 -- What `validate_expression` does at a node.
 abbrev pub expression_move_of : ExpressionMove → Move ExpressionState
-expression_move_of (E.Stop r) = stop r
-expression_move_of (E.On st) = on (expression_state_of st)
-expression_move_of (E.Inside t st) = inside (test_of t) (expression_state_of st)
+expression_move_of m = move_of expression_state_of test_of m
+
+-- The moves of the code's `validate_fortran_type`.
+abbrev pub FortranMove : Type 0
+FortranMove = Code.Move FortranLoop FortranInner
 
 -- What `validate_fortran_type` does at a node.
 abbrev pub fortran_move_of : FortranMove → Move FortranState
-fortran_move_of (F.Stop r) = stop r
-fortran_move_of (F.On st) = on (fortran_state_of st)
-fortran_move_of (F.Inside st) = inside selectors (fortran_state_of st)
+fortran_move_of m = move_of fortran_state_of fortran_test_of m
 
 -- At most n `?` wait for their `:`.
 abbrev pub Waits : ℕ → ExpressionMove → Type 0
-Waits n (E.Stop r) = Unit {0}
-Waits n (E.On st) = st.conditional_depth ≤ n
-Waits n (E.Inside t st) = st.conditional_depth ≤ n
+Waits n (Stop r) = Unit {0}
+Waits n (On st) = st.conditional_depth ≤ n
+Waits n (Inside t st) = st.conditional_depth ≤ n
 
 -- A move of an expression, and a bound that lets the code count its `?`.
 pub record Moves (n : ℕ) (r : ExpressionMove) (m : Move ExpressionState) : Type 0 where

@@ -5,8 +5,7 @@ use Rattle.type_nodes.specs.Moves.{Test}
 use Rattle.type_nodes.specs.Stands.{Stands}
 use Rattle.structure.specs.Said.{Said, Job}
 use Rattle.structure.specs.Checks.{checked, test}
-use Rattle.structure.specs.Allowance.{verdict_within}
-use Rattle.structure.specs.declared.moves.Verdict.{Verdict}
+use Rattle.structure.specs.Allowance.{Verdict, verdict_within}
 
 -- r is what comes of the check `what` of the nodes that stand there, when so many steps are left.
 pub record VerdictSays (tree kinds : List ℕ) (from to left : ℕ) (what : Nodes → Said) (r : Verdict) : Type 0 where

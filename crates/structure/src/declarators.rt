@@ -8,13 +8,13 @@ ghost use Rattle.rows.specs.Words.{no_word};
 ghost use Rattle.type_nodes.specs.Shapes.{TemplateArguments};
 ghost use Rattle.type_nodes.specs.Nodes.{exact_word, is_single_token};
 ghost use Rattle.type_nodes.specs.Sets.{is_c_builtin_type_word, is_c_family_declarator_qualifier};
-ghost use Rattle.type_nodes.specs.Stands.{WordedNodes, Of};
+ghost use Rattle.type_nodes.specs.Stands.{Of};
 ghost use Rattle.structure.specs.Declarators.{scope_has_valid_neighbors, is_part_of_name, abstract_declarator_node, c_family_group, c_family_node};
 ghost use Rattle.structure.specs.RepresentedMoves.{declarator_move_of, declarator_state_of, type_move_of, type_state_of};
 
+use crate::level::{Level, ReadRow};
 use crate::moves::{
-    DeclaratorLoop, DeclaratorMove, Inner, TypeLoop, TypeMove, declarator_inside_if,
-    declarator_on_if, type_inside_if, type_on_if,
+    DeclaratorLoop, DeclaratorMove, Inner, Move, TypeLoop, TypeMove, inside_if, on_if,
 };
 use rows::kinds::{IDENTIFIER, SCOPE, STAR};
 use rows::languages::{C, CPP};
@@ -50,37 +50,37 @@ pub fn abstract_declarator_node(
 {
     let operated = DeclaratorLoop {
         saw_operator: true,
-        saw_reference: st.saw_reference,
+        ..st
     };
     if shape == STAR {
-        return declarator_on_if(!st.saw_reference, operated);
+        return on_if(!st.saw_reference, operated);
     }
     if is_reference_operator(shape) {
         let referring = DeclaratorLoop {
             saw_operator: true,
             saw_reference: true,
         };
-        return declarator_on_if((language == CPP) & !st.saw_reference, referring);
+        return on_if((language == CPP) & !st.saw_reference, referring);
     }
     if shape == IDENTIFIER {
         let known = is_c_family_declarator_qualifier(word);
-        return declarator_on_if(known | is_part_of_name(left, right), st);
+        return on_if(known | is_part_of_name(left, right), st);
     }
     if shape == SCOPE {
         let good = scope_has_valid_neighbors(left, right);
-        return declarator_on_if((language == CPP) & good, st);
+        return on_if((language == CPP) & good, st);
     }
     if shape == TEMPLATE_ARGUMENTS {
         let list = (language == CPP) & (left == IDENTIFIER);
-        return declarator_inside_if(list, Inner::Arguments, st);
+        return inside_if(list, Inner::Arguments, st);
     }
     if shape == PARENTHESIZED {
-        return declarator_inside_if(true, Inner::Declarator, operated);
+        return inside_if(true, Inner::Declarator, operated);
     }
     if shape == BRACKETED {
-        return declarator_inside_if(true, Inner::ArrayBound, operated);
+        return inside_if(true, Inner::ArrayBound, operated);
     }
-    DeclaratorMove::Stop(false)
+    Move::Stop(false)
 }
 
 // Parentheses start the declarator, but not those after `_BitInt`.
@@ -88,26 +88,25 @@ fn c_family_group(language: u8, before: u8, st: TypeLoop) -> TypeMove
     ensures { type_move_of result ≡ c_family_group language before (type_state_of st) }
 {
     let begun = TypeLoop {
-        saw_type_word: st.saw_type_word,
         declarator_started: true,
-        saw_reference: st.saw_reference,
+        ..st
     };
     if before == DECLTYPE {
-        return type_inside_if(language == CPP, Inner::Expression, begun);
+        return inside_if(language == CPP, Inner::Expression, begun);
     }
     if is_typeof_word(before) {
-        return type_inside_if(true, Inner::TypeOrExpression, begun);
+        return inside_if(true, Inner::TypeOrExpression, begun);
     }
     if before == ATOMIC {
-        return type_inside_if(language == C, Inner::TypeName, begun);
+        return inside_if(language == C, Inner::TypeName, begun);
     }
     if before == BIT_INT {
-        return type_inside_if(language == C, Inner::Expression, st);
+        return inside_if(language == C, Inner::Expression, st);
     }
     if (before == NOEXCEPT) & st.declarator_started {
-        return type_inside_if(language == CPP, Inner::OptionalExpression, begun);
+        return inside_if(language == CPP, Inner::OptionalExpression, begun);
     }
-    type_inside_if(true, Inner::DeclaratorOrParameters(st.saw_type_word), begun)
+    inside_if(true, Inner::DeclaratorOrParameters(st.saw_type_word), begun)
 }
 
 // At a node that is no word: the loop takes words itself.
@@ -125,53 +124,58 @@ pub fn c_family_node(
 {
     let named = TypeLoop {
         saw_type_word: true,
-        declarator_started: st.declarator_started,
-        saw_reference: st.saw_reference,
+        ..st
     };
     let begun = TypeLoop {
-        saw_type_word: st.saw_type_word,
         declarator_started: true,
-        saw_reference: st.saw_reference,
+        ..st
     };
     if shape == SCOPE {
         let good = scope_has_valid_neighbors(left, right);
-        return type_on_if((language == CPP) & good, st);
+        return on_if((language == CPP) & good, st);
     }
     if shape == TEMPLATE_ARGUMENTS {
         let list = (language == CPP) & (left == IDENTIFIER);
-        return type_inside_if(list, Inner::Arguments, named);
+        return inside_if(list, Inner::Arguments, named);
     }
     if shape == STAR {
-        return type_on_if(st.saw_type_word & !st.saw_reference, begun);
+        return on_if(st.saw_type_word & !st.saw_reference, begun);
     }
     if is_reference_operator(shape) {
         let referring = TypeLoop {
-            saw_type_word: st.saw_type_word,
-            declarator_started: true,
             saw_reference: true,
+            ..begun
         };
         let first = (language == CPP) & st.saw_type_word & !st.saw_reference;
-        return type_on_if(first, referring);
+        return on_if(first, referring);
     }
     if shape == PARENTHESIZED {
         return c_family_group(language, before, st);
     }
     if shape == BRACKETED {
-        return type_inside_if(st.saw_type_word, Inner::ArrayBound, begun);
+        return inside_if(st.saw_type_word, Inner::ArrayBound, begun);
     }
-    TypeMove::Stop(false)
+    Move::Stop(false)
 }
 
-// A type of one node, a name or a builtin type word: no walk is needed to accept it.
-pub fn is_type_word(tree: &[u32], kinds: &[u8], words: &[u8], from: usize, to: usize) -> bool
-    requires { WordedNodes tree.now kinds.now words.now from to }
-    ensures { Of tree.now kinds.now from to (λ x. result ≡ (is_single_token kinds.now Identifier x && (eqb (exact_word kinds.now words.now x) no_word || is_c_builtin_type_word (exact_word kinds.now words.now x)))) }
-{
-    if is_single_token(tree, kinds, IDENTIFIER, from, to) {
-        let word = exact_word(tree, kinds, words, from, to);
-        return (word == NO_WORD) | is_c_builtin_type_word(word);
+impl Level<'_> {
+    // A type of one node, a name or a builtin type word: no walk is needed to accept it.
+    pub fn is_type_word(&self) -> bool
+        ensures { let row = self.now.row.now in Of row.tree.now row.kinds.now self.now.from self.now.to (λ x. result ≡ (is_single_token row.kinds.now Identifier x && (eqb (exact_word row.kinds.now row.words.now x) no_word || is_c_builtin_type_word (exact_word row.kinds.now row.words.now x)))) }
+    {
+        let Level { row, from, to } = *self;
+        let ReadRow {
+            tree,
+            kinds,
+            words,
+            ..
+        } = *row;
+        if is_single_token(tree, kinds, IDENTIFIER, from, to) {
+            let word = exact_word(tree, kinds, words, from, to);
+            return (word == NO_WORD) | is_c_builtin_type_word(word);
+        }
+        false
     }
-    false
 }
 
 // Where `c_family_node` goes on past a word, a `::` and an argument list.

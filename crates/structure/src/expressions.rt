@@ -1,12 +1,12 @@
 // What the loop of `validate_expression` does at a node.
 
-ghost use Rattle.std.specs.Prelude.{◌≡◌, ◌+◌, ◌<◌, pred, if◌then◌else◌};
+ghost use Rattle.std.specs.Prelude.{◌≡◌, ◌+◌, ◌<◌, if◌then◌else◌};
 ghost use Rattle.type_nodes.specs.Moves.{some_expression, optional_expression};
 ghost use Rattle.structure.specs.Expressions.{expression_node, expression_end};
 ghost use Rattle.structure.specs.RepresentedMoves.{test_of, expression_state_of, Moves};
 ghost use Rattle.reader.specs.Nodes.{numbers_bound};
 
-use crate::moves::{ExpressionLoop, ExpressionMove, Inner, expression_inside_if, expression_on_if};
+use crate::moves::{ExpressionLoop, ExpressionMove, Inner, Move, inside_if, on_if};
 use rows::kinds::{COLON, IDENTIFIER, QUESTION, SCOPE};
 use rows::languages::{CPP, FORTRAN};
 use type_nodes::sets::{
@@ -30,15 +30,6 @@ fn group_test(operand: bool) -> Inner
     Inner::OptionalExpression
 }
 
-fn less_one(depth: usize) -> usize
-    ensures { result ≡ pred depth }
-{
-    if depth == 0 {
-        return 0;
-    }
-    depth - 1
-}
-
 pub fn expression_node(language: u8, shape: u8, st: ExpressionLoop) -> ExpressionMove
     requires { st.conditional_depth < numbers_bound }
     ensures { Moves (st.conditional_depth + 1) result (expression_node language shape (expression_state_of st)) }
@@ -46,46 +37,72 @@ pub fn expression_node(language: u8, shape: u8, st: ExpressionLoop) -> Expressio
     let operand = st.expects_operand;
     let access = st.expects_name_after_access;
     let depth = st.conditional_depth;
+    let met = ExpressionLoop {
+        expects_operand: false,
+        ..st
+    };
+    let due = ExpressionLoop {
+        expects_operand: true,
+        ..st
+    };
+    let name_due = ExpressionLoop {
+        expects_name_after_access: true,
+        ..due
+    };
     if shape == IDENTIFIER {
-        return expression_on_if(operand, false, false, depth);
+        let named = ExpressionLoop {
+            expects_name_after_access: false,
+            ..met
+        };
+        return on_if(operand, named);
     }
     if is_literal(shape) {
-        return expression_on_if(operand & !access, false, access, depth);
+        return on_if(operand & !access, met);
     }
     if shape == SCOPE {
-        return expression_on_if((language == CPP) & !access, true, true, depth);
+        return on_if((language == CPP) & !access, name_due);
     }
     if is_member_access(shape) {
-        return expression_on_if(!operand & is_access_of(language, shape), true, true, depth);
+        return on_if(!operand & is_access_of(language, shape), name_due);
     }
     if is_prefix_operator(shape) & operand & !access {
-        return ExpressionMove::On(st);
+        return Move::On(st);
     }
     if is_prefix_or_binary_operator(shape) & operand & !access {
-        return ExpressionMove::On(st);
+        return Move::On(st);
     }
     if is_postfix_operator(shape) & !operand {
-        return ExpressionMove::On(st);
+        return Move::On(st);
     }
     if shape == QUESTION {
-        return expression_on_if(!(language == FORTRAN) & !operand, true, access, depth + 1);
+        let deeper = ExpressionLoop {
+            conditional_depth: depth + 1,
+            ..due
+        };
+        return on_if(!(language == FORTRAN) & !operand, deeper);
     }
     if shape == COLON {
-        let open = !(language == FORTRAN) & !operand & !(depth == 0);
-        return expression_on_if(open, true, access, less_one(depth));
+        let closed = ExpressionLoop {
+            conditional_depth: depth.saturating_sub(1),
+            ..due
+        };
+        return on_if(!(language == FORTRAN) & !operand & !(depth == 0), closed);
     }
     if is_binary_or_assignment_operator(language, shape) {
-        return expression_on_if(!operand, true, false, depth);
+        let operated = ExpressionLoop {
+            expects_name_after_access: false,
+            ..due
+        };
+        return on_if(!operand, operated);
     }
     if shape == PARENTHESIZED {
-        return expression_inside_if(!access, group_test(operand), false, access, depth);
+        return inside_if(!access, group_test(operand), met);
     }
     if shape == BRACKETED {
-        return expression_inside_if(!operand, Inner::SomeExpression, false, access, depth);
+        return inside_if(!operand, Inner::SomeExpression, met);
     }
     if shape == TEMPLATE_ARGUMENTS {
-        let list = (language == CPP) & !operand;
-        return expression_inside_if(list, Inner::Arguments, operand, access, depth);
+        return inside_if((language == CPP) & !operand, Inner::Arguments, st);
     }
-    ExpressionMove::Stop(false)
+    Move::Stop(false)
 }

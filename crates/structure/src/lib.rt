@@ -6,6 +6,7 @@ pub mod checks;
 pub mod declarators;
 pub mod expressions;
 pub mod fortran_types;
+pub mod level;
 pub mod moves;
 pub mod selectors;
 pub mod syntax;

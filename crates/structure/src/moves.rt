@@ -1,21 +1,21 @@
 // What a check does at a node, and what it comes to: specs/Moves.antt of type_nodes, specs/RepresentedMoves.antt.
 
 ghost use Rattle.std.specs.Prelude.{◌≡◌};
-ghost use Rattle.type_nodes.specs.Moves.{on_if, inside_if};
 ghost use Rattle.structure.specs.Said.{plain};
-ghost use Rattle.structure.specs.Expressions.{expression_state};
-ghost use Rattle.structure.specs.RepresentedMoves.{test_of, type_state_of, type_move_of, declarator_state_of, declarator_move_of, Moves};
+ghost use Rattle.structure.specs.RepresentedMoves.{goes_on_if, goes_inside_if};
 ghost use Rattle.structure.specs.Allowance.{verdict_within};
 
-// `Holds` and `Fails` with the steps that are left; `Spent`: the allowance did not last.
-#[derive(Clone, Copy)]
-pub enum Verdict {
-    Holds(usize),
+// Why a check does not hold: it fails, with the steps that are left, or the allowance did not last.
+#[derive(Clone, Copy, PartialEq, Eq)]
+pub enum Fault {
     Fails(usize),
     Spent,
 }
 
-// What is asked of the nodes below a node.
+// What a check comes to: where it holds, the steps that are left.
+pub type Verdict = Result<usize, Fault>;
+
+// What is asked of the nodes below a node: an enum, since the function that looks at a node hands it out, which no closure may be.
 #[derive(Clone, Copy)]
 pub enum Inner {
     TypeName,
@@ -59,114 +59,54 @@ pub struct FortranLoop {
     pub saw_selector: bool,
 }
 
+// Below a node of a Fortran type selectors alone are asked for.
 #[derive(Clone, Copy)]
-pub enum TypeMove {
-    Stop(bool),
-    On(TypeLoop),
-    Inside(Inner, TypeLoop),
+pub enum FortranInner {
+    Selectors,
 }
 
+// What a loop does at a node: return this answer; go on with these variables; or, if the nodes below the node pass what is asked of them, go on with
+// these, and else return false.
 #[derive(Clone, Copy)]
-pub enum DeclaratorMove {
+pub enum Move<S, I> {
     Stop(bool),
-    On(DeclaratorLoop),
-    Inside(Inner, DeclaratorLoop),
+    On(S),
+    Inside(I, S),
 }
 
-#[derive(Clone, Copy)]
-pub enum ExpressionMove {
-    Stop(bool),
-    On(ExpressionLoop),
-    Inside(Inner, ExpressionLoop),
-}
+pub type TypeMove = Move<TypeLoop, Inner>;
 
-// Below a node Fortran's types ask of selectors alone.
-#[derive(Clone, Copy)]
-pub enum FortranMove {
-    Stop(bool),
-    On(FortranLoop),
-    Inside(FortranLoop),
-}
+pub type DeclaratorMove = Move<DeclaratorLoop, Inner>;
+
+pub type ExpressionMove = Move<ExpressionLoop, Inner>;
+
+pub type FortranMove = Move<FortranLoop, FortranInner>;
 
 // A condition, tested without a step.
 pub fn plain(holds: bool, left: usize) -> Verdict
     ensures { result ≡ verdict_within left (plain holds) }
 {
     if holds {
-        return Verdict::Holds(left);
+        return Ok(left);
     }
-    Verdict::Fails(left)
+    Err(Fault::Fails(left))
 }
 
 // `next`: the loop's variables if it goes on.
-pub fn type_on_if(ok: bool, next: TypeLoop) -> TypeMove
-    ensures { type_move_of result ≡ on_if ok (type_state_of next) }
+pub fn on_if<S: Copy, I: Copy>(ok: bool, next: S) -> Move<S, I>
+    ensures { result ≡ goes_on_if ok next }
 {
     if ok {
-        return TypeMove::On(next);
+        return Move::On(next);
     }
-    TypeMove::Stop(false)
+    Move::Stop(false)
 }
 
-pub fn type_inside_if(ok: bool, inner: Inner, next: TypeLoop) -> TypeMove
-    ensures { type_move_of result ≡ inside_if ok (test_of inner) (type_state_of next) }
+pub fn inside_if<S: Copy, I: Copy>(ok: bool, inner: I, next: S) -> Move<S, I>
+    ensures { result ≡ goes_inside_if ok inner next }
 {
     if ok {
-        return TypeMove::Inside(inner, next);
+        return Move::Inside(inner, next);
     }
-    TypeMove::Stop(false)
-}
-
-pub fn declarator_on_if(ok: bool, next: DeclaratorLoop) -> DeclaratorMove
-    ensures { declarator_move_of result ≡ on_if ok (declarator_state_of next) }
-{
-    if ok {
-        return DeclaratorMove::On(next);
-    }
-    DeclaratorMove::Stop(false)
-}
-
-pub fn declarator_inside_if(ok: bool, inner: Inner, next: DeclaratorLoop) -> DeclaratorMove
-    ensures { declarator_move_of result ≡ inside_if ok (test_of inner) (declarator_state_of next) }
-{
-    if ok {
-        return DeclaratorMove::Inside(inner, next);
-    }
-    DeclaratorMove::Stop(false)
-}
-
-// `operand`, `access`, `depth`: the loop's variables if it goes on.
-pub fn expression_on_if(ok: bool, operand: bool, access: bool, depth: usize) -> ExpressionMove
-    ensures { Moves depth result (on_if ok (expression_state operand access depth)) }
-{
-    if ok {
-        return ExpressionMove::On(ExpressionLoop {
-            expects_operand: operand,
-            expects_name_after_access: access,
-            conditional_depth: depth,
-        });
-    }
-    ExpressionMove::Stop(false)
-}
-
-pub fn expression_inside_if(
-    ok: bool,
-    inner: Inner,
-    operand: bool,
-    access: bool,
-    depth: usize,
-) -> ExpressionMove
-    ensures { Moves depth result (inside_if ok (test_of inner) (expression_state operand access depth)) }
-{
-    if ok {
-        return ExpressionMove::Inside(
-            inner,
-            ExpressionLoop {
-                expects_operand: operand,
-                expects_name_after_access: access,
-                conditional_depth: depth,
-            },
-        );
-    }
-    ExpressionMove::Stop(false)
+    Move::Stop(false)
 }

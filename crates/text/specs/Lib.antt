@@ -1,3 +1,4 @@
 pub mod Text
+pub mod Puts
 pub mod Laws
 pub mod Examples

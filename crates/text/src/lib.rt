@@ -1,9 +1,10 @@
-// Text and record numbers, made in a lent buffer. Each function puts its bytes behind the first `at` and returns how many bytes there are then.
+// Text and record numbers, made in a lent buffer.
 
 #![tactic(auto)]
 
 ghost use Rattle.std.specs.Prelude.{◌≡◌, [], ◌∷◌, ◌+◌, ◌≤◌, ◌<◌, length};
-ghost use Rattle.text.specs.Text.{Appended, decimal, ended, fits, handed, last_digit, last_digits, little_endian_bytes, longest_ended, most_digits};
+ghost use Rattle.text.specs.Text.{decimal, ended, fits, handed, last_digit, last_digits, little_endian_bytes, longest_ended, most_digits};
+ghost use Rattle.text.specs.Puts.{Puts};
 
 const BASE: usize = 10;
 
@@ -19,14 +20,6 @@ pub const LONGEST_ENDED: usize = MOST_DIGITS + 1;
 // A byte is a number below this.
 const BYTE_VALUES: usize = 256;
 
-pub fn put_byte(text: &mut [u8], at: usize, byte: u8) -> usize
-    requires { at < length text.old }
-    ensures { Appended text.old at (byte ∷ []) result text.new }
-{
-    text[at] = byte;
-    at + 1
-}
-
 // The last decimal digit in ASCII.
 fn digit(number: usize) -> u8
     ensures { result ≡ last_digit number }
@@ -34,59 +27,91 @@ fn digit(number: usize) -> u8
     b'0' + (number % BASE) as u8
 }
 
-// The decimal digits of a number, the last `more` and one of them if it has more.
-fn put_digits(text: &mut [u8], at: usize, number: usize, more: usize) -> usize
-    requires { at + more < length text.old }
-    ensures { Appended text.old at (last_digits more number) result text.new }
-{
-    if more == 0 {
-        return put_byte(text, at, digit(number));
-    }
-    if number < BASE {
-        return put_byte(text, at, digit(number));
-    }
-    let last = put_digits(text, at, number / BASE, more - 1);
-    put_byte(text, last, digit(number))
+// Bytes that are made in a lent buffer: the first `end` of it.
+#[derive(Drop)]
+pub struct Text<'a> {
+    pub bytes: &'a mut [u8],
+    pub end: usize,
 }
 
-pub fn put_decimal(text: &mut [u8], at: usize, number: usize) -> usize
-    requires { at + most_digits ≤ length text.old }
-    ensures { Appended text.old at (decimal number) result text.new }
-{
-    put_digits(text, at, number, MORE_DIGITS)
-}
-
-// A number and the byte that ends it.
-pub fn put_ended(text: &mut [u8], at: usize, number: usize, end: u8) -> usize
-    requires { at + longest_ended ≤ length text.old }
-    ensures { Appended text.old at (ended number end) result text.new }
-{
-    let last = put_decimal(text, at, number);
-    put_byte(text, last, end)
-}
-
-pub fn put_bytes(text: &mut [u8], at: usize, bytes: &[u8]) -> usize
-    requires { at + length bytes.now ≤ length text.old }
-    ensures { Appended text.old at bytes.now result text.new }
-{
-    let mut i = 0;
-    while i < bytes.len() {
-        text[at + i] = bytes[i];
-        i += 1;
+impl<'a> Text<'a> {
+    // No bytes yet.
+    pub fn new(bytes: &'a mut [u8]) -> Text<'a>
+        ensures same_buffer { result.bytes.ghost_name ≡ bytes.entry.ghost_name }
+        ensures begins { (result.bytes.now ≡ bytes.old) × (result.end ≡ 0) }
+    {
+        Text { bytes, end: 0 }
     }
-    at + i
-}
 
-// A record's number in so many bytes, the lowest first.
-pub fn put_little_endian(bytes: &mut [u8], at: usize, number: usize, width: usize) -> usize
-    requires { at + width ≤ length bytes.old }
-    ensures { Appended bytes.old at (little_endian_bytes width number) result bytes.new }
-{
-    if width == 0 {
-        return at;
+    // How many bytes there are.
+    pub fn len(&self) -> usize
+        ensures { result ≡ self.now.end }
+    {
+        self.end
     }
-    let next = put_byte(bytes, at, (number % BYTE_VALUES) as u8);
-    put_little_endian(bytes, next, number / BYTE_VALUES, width - 1)
+
+    pub fn put_byte(&mut self, byte: u8)
+        requires { self.old.end < length self.old.bytes.now }
+        ensures { Puts self.old (byte ∷ []) self.new }
+    {
+        self.bytes[self.end] = byte;
+        self.end += 1;
+    }
+
+    // Byte by byte: the slice's own copy becomes a call of memmove, and the library is to need memcpy and memset alone.
+    pub fn put_bytes(&mut self, bytes: &[u8])
+        requires { self.old.end + length bytes.now ≤ length self.old.bytes.now }
+        ensures { Puts self.old bytes.now self.new }
+    {
+        for i in 0..bytes.len() {
+            self.put_byte(bytes[i]);
+        }
+    }
+
+    // The decimal digits of a number, the last `more` and one of them if it has more.
+    fn put_digits(&mut self, number: usize, more: usize)
+        requires { self.old.end + more < length self.old.bytes.now }
+        ensures { Puts self.old (last_digits more number) self.new }
+    {
+        if more == 0 {
+            self.put_byte(digit(number));
+            return;
+        }
+        if number < BASE {
+            self.put_byte(digit(number));
+            return;
+        }
+        self.put_digits(number / BASE, more - 1);
+        self.put_byte(digit(number));
+    }
+
+    pub fn put_decimal(&mut self, number: usize)
+        requires { self.old.end + most_digits ≤ length self.old.bytes.now }
+        ensures { Puts self.old (decimal number) self.new }
+    {
+        self.put_digits(number, MORE_DIGITS);
+    }
+
+    // A number and the byte that ends it.
+    pub fn put_ended(&mut self, number: usize, end: u8)
+        requires { self.old.end + longest_ended ≤ length self.old.bytes.now }
+        ensures { Puts self.old (ended number end) self.new }
+    {
+        self.put_decimal(number);
+        self.put_byte(end);
+    }
+
+    // A record's number in so many bytes, the lowest first.
+    pub fn put_little_endian(&mut self, number: usize, width: usize)
+        requires { self.old.end + width ≤ length self.old.bytes.now }
+        ensures { Puts self.old (little_endian_bytes width number) self.new }
+    {
+        if width == 0 {
+            return;
+        }
+        self.put_byte((number % BYTE_VALUES) as u8);
+        self.put_little_endian(number / BYTE_VALUES, width - 1);
+    }
 }
 
 // Puts a whole output in front of a caller's buffer, and says whether it has room: if not, the buffer is not touched.
@@ -97,6 +122,6 @@ pub fn hand_over(buffer: &mut [u8], output: &[u8]) -> bool
     if buffer.len() < output.len() {
         return false;
     }
-    put_bytes(buffer, 0, output);
+    buffer[..output.len()].copy_from_slice(output);
     true
 }

@@ -1,5 +1,6 @@
 -- Computed examples, worked out by hand from document 02, C-12, so that a wrong edit of a definition is refused here.
 -- Assumes nothing.
+use Rattle.type_list.specs.ListAnswer.{list_accepts, list_refuses}
 use Rattle.std.specs.Prelude.{ℕ, ◌≡◌, refl, List, [], ◌∷◌, map, length, take, replicate}
 use Rattle.rows.specs.Languages.{C, Cpp, C89, Cpp17}
 use Rattle.rows.specs.Kinds.{LeftParen, RightParen, Comma, Less, Greater}
@@ -12,7 +13,6 @@ use Rattle.type_name.specs.StarredRows.{word, int_file}
 use Rattle.type_list.specs.Parts.{parts}
 use Rattle.type_list.specs.ListAnswers.{parts_answer, list_answer_in, list_answer, list_buffer_in, list_buffer}
 use Rattle.type_list.specs.AnswerNumbers.{list_numbers, list_code}
-use Rattle.type_list.specs.declared.answer.ListAnswer.TheVariants.{Accepted, Refused}
 
 -- A row of tokens, wherever they stand in a file.
 abbrev in_file : List Token → List RowToken
@@ -96,7 +96,7 @@ first_decides = refl
 -- ---- files and buffers
 
 -- `int` alone is one part. 6 comes before any part and touches nothing; a head alone is an empty row.
-files : list_answer (int_file 2) 6 ∷ list_answer (int_file 2) 5 ∷ list_answer (take 11 (int_file 2)) 0 ∷ [] ≡ Accepted 1 1 2 ∷ Refused ShortBuffer 0 65535 ∷ Refused Empty 0 0 ∷ []
+files : list_answer (int_file 2) 6 ∷ list_answer (int_file 2) 5 ∷ list_answer (take 11 (int_file 2)) 0 ∷ [] ≡ list_accepts 1 1 2 ∷ list_refuses ShortBuffer 0 65535 ∷ list_refuses Empty 0 0 ∷ []
 unfolding list_of
 files = refl
 
@@ -113,6 +113,6 @@ trees = refl
 
 -- ---- answers as numbers
 
-codes : list_code (Accepted 2 7 9) ∷ list_code (Refused (UnclosedAngle 1) 5 1) ∷ [] ≡ 0 ∷ 16 ∷ []
+codes : list_code (list_accepts 2 7 9) ∷ list_code (list_refuses (UnclosedAngle 1) 5 1) ∷ [] ≡ 0 ∷ 16 ∷ []
 unfolding list_code
 codes = refl

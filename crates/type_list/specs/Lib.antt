@@ -1,5 +1,6 @@
 pub mod Parts
 pub mod Cutting
+pub mod ListAnswer
 pub mod ListAnswers
 pub mod AnswerNumbers
 pub mod ListSays

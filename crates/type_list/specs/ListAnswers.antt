@@ -1,5 +1,6 @@
 -- The answer to a list of types and the final tree buffer: document 02, C-12.
 -- Assumes nothing.
+use Rattle.type_list.specs.ListAnswer.{list_accepts, list_refuses, ListAnswer, no_part}
 use Rattle.std.specs.Prelude.{ℕ, suc, ◌+◌, ◌-◌, List, [], ◌∷◌, ◌++◌, length}
 use Rattle.rows.specs.Format.{format}
 use Rattle.rows.specs.Records.{RowToken, kinds_of, words_of}
@@ -9,8 +10,6 @@ use Rattle.type_name.specs.FileRow.{HeadRow, Outcome, untouched, passes, on_pass
 use Rattle.type_name.specs.Answers.{RowAnswer, answer_of, filled}
 use Rattle.type_name.specs.Answers
 use Rattle.type_list.specs.Parts.{parts}
-use Rattle.type_list.specs.declared.answer.ListAnswer.{ListAnswer}
-use Rattle.type_list.specs.declared.answer.ListAnswer.TheVariants.{Accepted, Refused}
 
 -- ---- the answer to a row's parts
 
@@ -50,10 +49,6 @@ unfoldable pub list_outcome : (file : List ℕ) (room : ℕ) → Outcome PartsAn
 unfolding on_pass file_row row_parts_answer
 list_outcome file room = entry_outcome format row_parts_answer file room
 
--- "65,535 before any": the part of a refusal that is given before there are parts.
-abbrev pub no_part : ℕ
-no_part = 65535
-
 -- "Nodes in all".
 unfoldable pub nodes_in_all : List Nodes → ℕ
 nodes_in_all [] = 0
@@ -62,9 +57,9 @@ nodes_in_all (x ∷ xs) = count x + nodes_in_all xs
 -- "Accepted: parts, nodes in all, steps; a refusal adds its part, 65,535 before any."
 unfoldable pub list_answer_in : Outcome PartsAnswer → ListAnswer
 unfolding nodes_in_all
-list_answer_in (untouched e) = Refused e 0 no_part
-list_answer_in (passes (accepted xs m)) = Accepted (length xs) (nodes_in_all xs) m
-list_answer_in (passes (refused e m part)) = Refused e m part
+list_answer_in (untouched e) = list_refuses e 0 no_part
+list_answer_in (passes (accepted xs m)) = list_accepts (length xs) (nodes_in_all xs) m
+list_answer_in (passes (refused e m part)) = list_refuses e m part
 
 -- The answer to any file with a tree buffer of any length.
 unfoldable pub list_answer : (file : List ℕ) (room : ℕ) → ListAnswer

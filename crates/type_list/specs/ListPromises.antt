@@ -1,13 +1,14 @@
 -- What document 02's C-12 promises of a call, clause by clause. `file` is the file handed in, `before` what the tree buffer held at entry, `a` the
 -- answer, `after` what the buffer holds at exit.
 -- Assumes nothing.
-use Rattle.std.specs.Prelude.{ℕ, ◌+◌, ◌-◌, ◌≤◌, ◌<◌, ◌≡◌, ◌⊎◌, ◌↔◌, List, [], ◌∷◌, ◌++◌, map, length, replicate}
+use Rattle.type_list.specs.ListAnswer.{list_accepts, list_refuses, ListAnswer, no_part}
+use Rattle.rows.specs.Answer.{accepted_with, refused_with, Answer}
+use Rattle.std.specs.Prelude.{ℕ, ◌+◌, ◌-◌, ◌≤◌, ◌<◌, ◌≡◌, ◌⊎◌, ◌↔◌, List, [], ◌∷◌, ◌++◌, map, length, replicate, Err, Ok}
 use Rattle.rows.specs.Format.{format, SameOrLater}
 use Rattle.rows.specs.Records.{RowToken, kinds_of, words_of}
 use Rattle.rows.specs.Refusals.{refusal_of}
 use Rattle.rows.specs.declared.answer.TypeNameError.{TypeNameError}
 use Rattle.rows.specs.declared.answer.TypeNameError.TheVariants.{AllowancePassed}
-use Rattle.rows.specs.declared.answer.Answer.{Answer}
 use Rattle.rows.specs.declared.head.Head.{Head}
 use Rattle.reader.specs.Nodes.{t_node, Nodes, number, count, records, kind_of, token_of}
 use Rattle.reader.specs.Reading.{MAX_NESTING_DEPTH}
@@ -16,9 +17,7 @@ use Rattle.type_name.specs.FileRow.{passes, file_row}
 use Rattle.type_name.specs.Answers.{accepted, refused, answer_of, answer, filled, final_buffer}
 use Rattle.type_name.specs.Promises.{last_untouched, BracketsOf, tokens_in, WrittenAs}
 use Rattle.type_list.specs.Parts.{cut_number, parts}
-use Rattle.type_list.specs.ListAnswers.{no_part, nodes_in_all, records_in_all, list_answer, list_buffer}
-use Rattle.type_list.specs.declared.answer.ListAnswer.{ListAnswer}
-use Rattle.type_list.specs.declared.answer.ListAnswer.TheVariants.{Accepted, Refused}
+use Rattle.type_list.specs.ListAnswers.{nodes_in_all, records_in_all, list_answer, list_buffer}
 
 -- ---- a part that was read
 
@@ -55,7 +54,7 @@ pub record HoldsAlone (h : Head) (p : PartTree) (file' before' : List ℕ) : Typ
 pub record PartRead (h : Head) (p : PartTree) : Type 0 where
   -- "Each part's tree is the one it would get alone", and so are its steps.
   pub alone : (file' before' : List ℕ) → HoldsAlone h p file' before'
-      → (answer file' (length before') ≡ Answer.Accepted (count p.tree) p.steps) × (final_buffer file' before' ≡ filled (length before') (records p.tree))
+      → (answer file' (length before') ≡ accepted_with (count p.tree) p.steps) × (final_buffer file' before' ≡ filled (length before') (records p.tree))
   pub row_alone : (allowance : ℕ) → p.steps ≤ allowance
       → answer_of h.language h.standard h.flag (kinds_of p.part) (words_of p.part) allowance ≡ accepted p.tree p.steps
   -- Demand 3 of the part and its tree.
@@ -123,14 +122,14 @@ pub record RefusedList (file before after : List ℕ) (e : TypeNameError) (steps
 
 -- The answer to one type name, as the answer to a list of it alone.
 abbrev pub as_list : Answer → ListAnswer
-as_list (Answer.Accepted nodes steps) = Accepted 1 nodes steps
-as_list (Answer.Refused e steps) = Refused e steps 0
+as_list (Ok a) = list_accepts 1 a.nodes a.steps
+as_list (Err r) = list_refuses r.error r.steps 0
 
 -- `type_name_read` answers so with 13.
 pub record GivesCut (file : List ℕ) (room : ℕ) : Type 0 where
   pub error : TypeNameError
   pub steps : ℕ
-  pub is : answer file room ≡ Answer.Refused error steps
+  pub is : answer file room ≡ refused_with error steps
   pub is_13 : (refusal_of error).number ≡ cut_number
 
 -- ---- the contract
@@ -138,5 +137,5 @@ pub record GivesCut (file : List ℕ) (room : ℕ) : Type 0 where
 pub record ListPromised (file before : List ℕ) (a : ListAnswer) (after : List ℕ) : Type 0 where
   pub answered : a ≡ list_answer file (length before)
   pub buffered : after ≡ list_buffer file before
-  pub accepted_list : (parts_told nodes steps : ℕ) → a ≡ Accepted parts_told nodes steps → AcceptedList file before after parts_told nodes steps
-  pub refused_list : (e : TypeNameError) (steps part : ℕ) → a ≡ Refused e steps part → RefusedList file before after e steps part
+  pub accepted_list : (parts_told nodes steps : ℕ) → a ≡ list_accepts parts_told nodes steps → AcceptedList file before after parts_told nodes steps
+  pub refused_list : (e : TypeNameError) (steps part : ℕ) → a ≡ list_refuses e steps part → RefusedList file before after e steps part

@@ -1,10 +1,13 @@
 -- What the contracts below the entry say: of a part, of the parts taken so far, and of the buffer. They are worded with the definitions of Parts.antt
 -- and ListAnswers.antt.
 -- Assumes nothing.
-use Rattle.std.specs.Prelude.{ℕ, ◌+◌, ◌*◌, ◌-◌, ◌≤◌, ◌≡◌, List, [], ◌++◌, length, take, drop, ltb, if◌then◌else◌}
+use Rattle.rows.specs.declared.answer.TypeNameError.{TypeNameError}
+use Rattle.type_list.specs.ListAnswer.{ListAnswer}
+use Rattle.type_list.specs.declared.parts.PartRefused.{PartRefused}
+use Rattle.rows.specs.Answer.{accepted_with, refused_with, Answer}
+use Rattle.std.specs.Prelude.{ℕ, ◌+◌, ◌*◌, ◌-◌, ◌≤◌, ◌≡◌, List, [], ◌++◌, length, take, drop, ltb, if◌then◌else◌, Err, Ok, Result}
 use Rattle.rows.specs.Format.{most_tokens}
 use Rattle.rows.specs.Records.{RowToken, kinds_of, words_of}
-use Rattle.rows.specs.declared.answer.Answer.{Answer}
 use Rattle.rows.specs.declared.head.Head.{Head}
 use Rattle.reader.specs.Nodes.{Nodes, count, node_width, numbers_per_token, records}
 use Rattle.type_name.specs.FileRow.{passes}
@@ -13,18 +16,19 @@ use Rattle.type_name.specs.Answers
 use Rattle.type_name.specs.EntrySays.{ReadsRow}
 use Rattle.type_list.specs.Parts.{up_to_cut, part_length, parts}
 use Rattle.type_list.specs.ListAnswers.{PartsAnswer, accepted, refused, parts_answer, list_answer_in, list_buffer_in, nodes_in_all, records_in_all}
-use Rattle.type_list.specs.declared.answer.ListAnswer.{ListAnswer}
-use Rattle.type_list.specs.declared.answer.ListAnswer.TheVariants.{Accepted, Refused}
 use Rattle.type_list.specs.declared.part.Part.{Part}
 use Rattle.type_list.specs.declared.parts.Taken.{Taken}
-use Rattle.type_list.specs.declared.parts.PartStep.{PartStep}
 
 -- ---- a part
 
+-- A part that is refused, and what is left of the allowance.
+abbrev pub part_refuses : TypeNameError → (left : ℕ) → Result Taken PartRefused
+part_refuses e left = Err (record { error = e; left = left })
+
 -- How many of `count` tokens are the first part, by the answer to them all.
 abbrev pub length_by : (count : ℕ) → Answer → ℕ
-length_by count (Answer.Accepted nodes steps) = count
-length_by count (Answer.Refused e steps) = up_to_cut count e
+length_by count (Ok a) = count
+length_by count (Err r) = up_to_cut count r.error
 
 -- The answer to the first part of a row, of so many tokens.
 abbrev pub part_answer : (h : Head) (kinds words : List ℕ) (length allowance : ℕ) → RowAnswer
@@ -76,12 +80,12 @@ module _ (h : Head) (kinds words tree : List ℕ) (t : Taken) where
     pub held : take (node_width * next.nodes) tree' ≡ take (node_width * t.nodes) tree ++ records nodes
     pub ready : PartReady h kinds words tree' next
 
-  abbrev pub PartTaken : PartStep → (tree' : List ℕ) → Type 0
-  PartTaken (PartStep.On next) tree' = PartAccepted next tree'
-  PartTaken (PartStep.Refused e left) tree' = (m : ℕ) × (next_answer ≡ Answers.refused e m) × (left ≡ t.left - m) × (m ≤ t.left)
+  abbrev pub PartTaken : Result Taken PartRefused → (tree' : List ℕ) → Type 0
+  PartTaken (Ok next) tree' = PartAccepted next tree'
+  PartTaken (Err r) tree' = (m : ℕ) × (next_answer ≡ Answers.refused r.error m) × (r.left ≡ t.left - m) × (m ≤ t.left)
 
   -- `take_part`. What the buffer holds behind the trees, and after a refusal, is free.
-  pub record TakesPart (r : PartStep) (tree' : List ℕ) : Type 0 where
+  pub record TakesPart (r : Result Taken PartRefused) (tree' : List ℕ) : Type 0 where
     pub says : PartTaken r tree'
 
 -- ---- all parts
@@ -127,8 +131,8 @@ pub record ReadsParts (h : Head) (kinds words : List ℕ) (r : ListAnswer) (tree
 
 -- The answer to a list as the answer to one row that has all its nodes.
 abbrev pub as_one : ListAnswer → Answer
-as_one (Accepted parts nodes steps) = Answer.Accepted nodes steps
-as_one (Refused e steps part) = Answer.Refused e steps
+as_one (Ok a) = accepted_with a.nodes a.steps
+as_one (Err r) = refused_with r.error r.steps
 
 -- `answer_list`: answer and final buffer are the definition's.
 pub record ListTold (h : Head) (kinds words before : List ℕ) (r : ListAnswer) (after : List ℕ) : Type 0 where

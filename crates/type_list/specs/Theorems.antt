@@ -1,5 +1,6 @@
 -- What is proved of the definitions, on one page: each theorem with what it means. The proofs are in Laws/ and in the crates below.
 -- Assumes nothing.
+use Rattle.type_list.specs.ListAnswer.{ListAnswer}
 use Rattle.std.specs.Prelude.{ℕ, ◌<◌, ◌≡◌, ◌↔◌, List, length}
 use Rattle.rows.specs.Format.{format}
 use Rattle.rows.specs.Records.{RowToken}
@@ -12,7 +13,6 @@ use Rattle.type_list.specs.ListPromises.{as_list, GivesCut, ListPromised}
 use Rattle.type_list.specs.Laws.Cuts as Cuts
 use Rattle.type_list.specs.Laws.AsRead as AsRead
 use Rattle.type_list.specs.Laws.Promised as Promised
-use Rattle.type_list.specs.declared.answer.ListAnswer.{ListAnswer}
 
 -- Whatever answer and buffer are the definition's keep all the promises: each part's tree and steps are those it would get alone, nodes and steps are
 -- the sums, a tree begins exactly at a T of token 0, demand 3 holds of each part, the first part refused decides, 13 is never given.

@@ -5,33 +5,35 @@ ghost use Rattle.type_name.specs.EntrySays.{RowReady, TreeFits, settled};
 ghost use Rattle.type_list.specs.ListAnswers.{list_answer, list_buffer};
 ghost use Rattle.type_list.specs.ListSays.{FromTokens, ListTold, as_one};
 
-use crate::answer::ListAnswer;
+use crate::answer::{ListAccepted, ListAnswer, ListRefused};
 use crate::parts::read_parts;
-use rows::answer::Answer;
+use rows::answer::{Accepted, Refused};
 use rows::head::Head;
 use rows::row::MOST_TOKENS;
 use type_name::buffer::settle;
 use type_name::file_row::{FileRow, read_file};
 
-// The part of a refusal that is given before there are parts.
-pub const NO_PART: u32 = 65535;
-
-// The trees of an accepted list stand in front of the buffer as one tree's nodes would.
+// The trees of an accepted list stand in front of the buffer as one tree's nodes would. No twin of `settle_match`, which leaves the buffer as it is where
+// a rule wins.
 fn settle_list(tree: &mut [u32], answer: ListAnswer)
     requires { TreeFits (as_one answer) tree.old }
     ensures { tree.new ≡ settled tree.old (as_one answer) }
 {
     match answer {
-        ListAnswer::Accepted {
-            parts: _,
-            nodes,
-            steps,
-        } => settle(tree, Answer::Accepted { nodes, steps }),
-        ListAnswer::Refused {
-            error,
-            steps,
-            part: _,
-        } => settle(tree, Answer::Refused { error, steps }),
+        Ok(
+            ListAccepted {
+                parts: _,
+                nodes,
+                steps,
+            },
+        ) => settle(tree, Ok(Accepted { nodes, steps })),
+        Err(
+            ListRefused {
+                error,
+                steps,
+                part: _,
+            },
+        ) => settle(tree, Err(Refused { error, steps })),
     }
 }
 
@@ -54,13 +56,6 @@ pub fn parse_type_list(file: &[u8], tree: &mut [u32]) -> ListAnswer
     let mut kinds = [0u8; MOST_TOKENS];
     let mut words = [0u8; MOST_TOKENS];
     let room = tree.len();
-    let row = read_file(file, room, &mut kinds, &mut words);
-    match row {
-        FileRow::Refused(error) => ListAnswer::Refused {
-            error,
-            steps: 0,
-            part: NO_PART,
-        },
-        FileRow::Row { head, count } => answer_list(head, &kinds[..count], &words[..count], tree),
-    }
+    let FileRow { head, count } = read_file(file, room, &mut kinds, &mut words)?;
+    answer_list(head, &kinds[..count], &words[..count], tree)
 }

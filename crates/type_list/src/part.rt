@@ -35,8 +35,8 @@ fn length_by(answer: Answer, count: usize) -> usize
     ensures { result ≡ length_by count answer }
 {
     match answer {
-        Answer::Accepted { nodes: _, steps: _ } => count,
-        Answer::Refused { error, steps: _ } => up_to_cut(error, count),
+        Ok(_) => count,
+        Err(refused) => up_to_cut(refused.error, count),
     }
 }
 

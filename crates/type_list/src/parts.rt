@@ -4,10 +4,10 @@ ghost use Rattle.std.specs.Prelude.{◌≤◌, length};
 ghost use Rattle.type_name.specs.EntrySays.{RowReady};
 ghost use Rattle.type_list.specs.ListSays.{PartReady, ReadsParts, TakesPart, WithAllowance};
 
-use crate::answer::ListAnswer;
+use crate::answer::{ListAccepted, ListAnswer, ListRefused};
 use crate::part::read_part;
 use reader::nodes::NODE_WIDTH;
-use rows::answer::{Answer, TypeNameError};
+use rows::answer::{Accepted, Refused, TypeNameError};
 use rows::head::Head;
 
 // The parts taken so far: the next one's first token, how many parts and nodes they are, and what they left of the allowance.
@@ -19,25 +19,27 @@ pub struct Taken {
     pub left: u32,
 }
 
+// Why the next part is refused, and what is left of the allowance.
 #[derive(Clone, Copy)]
-pub enum PartStep {
-    On(Taken),
-    Refused { error: TypeNameError, left: u32 },
+pub struct PartRefused {
+    pub error: TypeNameError,
+    pub left: u32,
 }
 
 fn with_allowance(head: Head, allowance: u32) -> Head
     ensures { WithAllowance head allowance result }
 {
-    Head {
-        language: head.language,
-        standard: head.standard,
-        flag: head.flag,
-        allowance,
-    }
+    Head { allowance, ..head }
 }
 
 // The next part, read into the buffer behind the trees that stand there, within what is left of the allowance.
-fn take_part(head: Head, kinds: &[u8], words: &[u8], tree: &mut [u32], taken: Taken) -> PartStep
+fn take_part(
+    head: Head,
+    kinds: &[u8],
+    words: &[u8],
+    tree: &mut [u32],
+    taken: Taken,
+) -> Result<Taken, PartRefused>
     requires { PartReady head kinds.now words.now tree.old taken × (taken.from ≤ length kinds.now) }
     ensures { TakesPart head kinds.now words.now tree.old taken result tree.new }
 {
@@ -52,11 +54,11 @@ fn take_part(head: Head, kinds: &[u8], words: &[u8], tree: &mut [u32], taken: Ta
     );
     let answer = part.answer;
     match answer {
-        Answer::Refused { error, steps } => PartStep::Refused {
+        Err(Refused { error, steps }) => Err(PartRefused {
             error,
             left: taken.left - steps,
-        },
-        Answer::Accepted { nodes, steps } => PartStep::On(Taken {
+        }),
+        Ok(Accepted { nodes, steps }) => Ok(Taken {
             from: from + part.length + 1,
             parts: taken.parts + 1,
             nodes: taken.nodes + nodes,
@@ -79,21 +81,21 @@ pub fn read_parts(head: Head, kinds: &[u8], words: &[u8], tree: &mut [u32]) -> L
     while taken.from <= kinds.len() {
         let step = take_part(head, kinds, words, tree, taken);
         match step {
-            PartStep::Refused { error, left } => {
-                return ListAnswer::Refused {
+            Err(PartRefused { error, left }) => {
+                return Err(ListRefused {
                     error,
                     steps: head.allowance - left,
                     part: taken.parts,
-                };
+                });
             }
-            PartStep::On(next) => {
+            Ok(next) => {
                 taken = next;
             }
         }
     }
-    ListAnswer::Accepted {
+    Ok(ListAccepted {
         parts: taken.parts,
         nodes: taken.nodes,
         steps: head.allowance - taken.left,
-    }
+    })
 }

@@ -1,14 +1,14 @@
 -- The answer to a row and to a file, and the final tree buffer: document 01, "Answer record".
 -- Assumes nothing.
-use Rattle.std.specs.Prelude.{ℕ, ◌+◌, ◌-◌, Bool, not, ◌&&◌, List, [], ◌++◌, length, replicate, eqb, if◌then◌else◌}
+use Rattle.rows.specs.Answer.{accepted_with, refused_with, Answer}
+use Rattle.rows.specs.declared.answer.Feature.{Feature}
+use Rattle.std.specs.Prelude.{ℕ, ◌+◌, ◌-◌, Bool, not, ◌&&◌, List, [], ◌++◌, length, replicate, eqb, if◌then◌else◌, None, Option, Some}
 use Rattle.rows.specs.Languages.{Cpp}
 use Rattle.rows.specs.Format.{format, asks_structure}
 use Rattle.rows.specs.Records.{kinds_of, words_of}
 use Rattle.rows.specs.Allowance.{within}
 use Rattle.rows.specs.declared.answer.TypeNameError.{TypeNameError}
 use Rattle.rows.specs.declared.answer.TypeNameError.TheVariants.{UnexpectedTokenAfterTypeName, AllowancePassed, NoTypeName, NotAvailableInProfile}
-use Rattle.rows.specs.declared.answer.Answer.{Answer}
-use Rattle.rows.specs.declared.answer.Answer.TheVariants.{Accepted, Refused}
 use Rattle.prescan.specs.Prescan.{Scanned, passed, prescan}
 use Rattle.prescan.specs.Prescan
 use Rattle.reader.specs.Nodes.{Nodes, count, records}
@@ -16,8 +16,6 @@ use Rattle.reader.specs.Reading.{Got, got, bad, Fault, refusal, no_list, reading
 use Rattle.structure.specs.Said.{Said, holds, fails}
 use Rattle.structure.specs.Syntax.{validate_structured_syntax}
 use Rattle.profile.specs.Profile.{missing_feature}
-use Rattle.profile.specs.declared.profile.Lack.{Lack}
-use Rattle.profile.specs.declared.profile.Lack.TheVariants.{Nothing, Lacks}
 use Rattle.type_name.specs.FileRow.{HeadRow, Outcome, untouched, passes, on_pass, file_row, entry_outcome}
 
 -- ---- the answer to a row, place by place
@@ -69,9 +67,9 @@ by_structure x m (holds n) = accepted x (m + n)
 by_structure x m (fails n) = refused NoTypeName (m + n)
 
 -- "40 feature".
-unfoldable pub by_profile : Nodes → (steps : ℕ) → Lack → RowAnswer
-by_profile x m Nothing = accepted x m
-by_profile x m (Lacks f) = refused (NotAvailableInProfile f) m
+unfoldable pub by_profile : Nodes → (steps : ℕ) → Option Feature → RowAnswer
+by_profile x m None = accepted x m
+by_profile x m (Some f) = refused (NotAvailableInProfile f) m
 
 -- The places "Structure" and "Profile", of a tree however it was read.
 unfoldable pub tree_checked : (language standard flag : ℕ) (kinds words : List ℕ) → RowAnswer → RowAnswer
@@ -115,9 +113,9 @@ outcome file room = entry_outcome format row_answer file room
 
 -- "Accepted: node count, steps. Refused: number, token, detail, steps."
 unfoldable pub answer_in : Outcome RowAnswer → Answer
-answer_in (untouched e) = Refused e 0
-answer_in (passes (accepted x m)) = Accepted (count x) m
-answer_in (passes (refused e m)) = Refused e m
+answer_in (untouched e) = refused_with e 0
+answer_in (passes (accepted x m)) = accepted_with (count x) m
+answer_in (passes (refused e m)) = refused_with e m
 
 -- The "Answer record" of any file with a tree buffer of any length.
 unfoldable pub answer : (file : List ℕ) (room : ℕ) → Answer

@@ -1,12 +1,12 @@
 -- Computed rows of this crate's definitions, so that a wrong edit of one is refused here. Document 01's rows without a star; answers are its or the original's.
 -- Assumes nothing.
+use Rattle.rows.specs.Answer.{accepted_with, refused_with}
 use Rattle.std.specs.Prelude.{ℕ, ◌+◌, ◌≡◌, refl, List, [], ◌∷◌, ◌++◌, length, take, replicate}
 use Rattle.rows.specs.Languages.{C, Cpp, Fortran, C89, Cpp98, Cpp17, Fortran2018}
 use Rattle.rows.specs.Kinds.{Identifier, Integer, LeftParen, RightParen, LeftBracket, RightBracket, Star, Ampersand, Less, Greater, ShiftRight}
 use Rattle.rows.specs.Words.{bytes}
 use Rattle.rows.specs.Refusals.{no_token}
 use Rattle.reader.specs.Written.{Token, sign}
-use Rattle.rows.specs.declared.answer.Answer.TheVariants.{Accepted, Refused}
 use Rattle.rows.specs.declared.answer.TypeNameError.TheVariants.{InvalidRecord, UnclosedAngle}
 use Rattle.type_name.specs.Answers.{final_buffer}
 use Rattle.type_name.specs.AnswerNumbers.{answer_numbers, answer_code}
@@ -55,12 +55,12 @@ wrong_closer = refl
 -- ---- answers as numbers
 
 -- Accepted with 10 nodes after 8 steps; refusal 4 of a record at byte offset 23; refusal 16 that names token 1.
-as_numbers : answer_numbers (Accepted 10 8) ∷ answer_numbers (Refused (InvalidRecord 23) 0) ∷ answer_numbers (Refused (UnclosedAngle 1) 0) ∷ []
+as_numbers : answer_numbers (accepted_with 10 8) ∷ answer_numbers (refused_with (InvalidRecord 23) 0) ∷ answer_numbers (refused_with (UnclosedAngle 1) 0) ∷ []
     ≡ (0 ∷ 10 ∷ 8 ∷ 0 ∷ []) ∷ (4 ∷ 65535 ∷ 23 ∷ 0 ∷ []) ∷ (16 ∷ 1 ∷ 0 ∷ 0 ∷ []) ∷ []
 unfolding answer_numbers
 as_numbers = refl
 
-codes : answer_code (Accepted 10 8) ∷ answer_code (Refused (UnclosedAngle 1) 0) ∷ [] ≡ 0 ∷ 16 ∷ []
+codes : answer_code (accepted_with 10 8) ∷ answer_code (refused_with (UnclosedAngle 1) 0) ∷ [] ≡ 0 ∷ 16 ∷ []
 unfolding answer_code
 codes = refl
 

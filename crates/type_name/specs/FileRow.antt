@@ -1,6 +1,6 @@
 -- A file's head and row, or a refusal that touches no buffer: the first three places of document 01's table, "File", "Each record in turn", "Buffer".
 -- Assumes nothing.
-use Rattle.std.specs.Prelude.{ℕ, ◌*◌, List, length, ltb, if◌then◌else◌}
+use Rattle.std.specs.Prelude.{ℕ, ◌*◌, List, length, ltb, if◌then◌else◌, Err, Ok, Result}
 use Rattle.rows.specs.Format.{head_length, most_tokens}
 use Rattle.rows.specs.Records.{RowToken, Row, row, head, records_from}
 use Rattle.rows.specs.Records
@@ -8,8 +8,6 @@ use Rattle.rows.specs.declared.format.Format.{Format}
 use Rattle.rows.specs.declared.answer.TypeNameError.{TypeNameError}
 use Rattle.rows.specs.declared.answer.TypeNameError.TheVariants.{ShortBuffer}
 use Rattle.rows.specs.declared.head.Head.{Head}
-use Rattle.rows.specs.declared.head.FileHead.{FileHead}
-use Rattle.rows.specs.declared.head.FileHead.TheVariants.{Formed, Refused}
 use Rattle.reader.specs.Nodes.{numbers_per_token}
 
 -- What comes of a file: "Refusals 1 to 6 don't touch the tree buffer"; or something is read, and what is answered to it is the parameter.
@@ -28,9 +26,9 @@ pub record HeadRow : Type 0 where
   pub tokens : List RowToken
 
 -- The place "File": refusals 1 to 3.
-unfoldable pub head_read : FileHead → Outcome Head
-head_read (Refused e) = untouched e
-head_read (Formed h) = passes h
+unfoldable pub head_read : Result Head TypeNameError → Outcome Head
+head_read (Err e) = untouched e
+head_read (Ok h) = passes h
 
 -- The place "Each record in turn": refusals 5 and 4.
 unfoldable pub row_read : Row → Outcome (List RowToken)

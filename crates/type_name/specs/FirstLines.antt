@@ -1,6 +1,7 @@
 -- An answer as the program `listing` prints it in its first line, and a row's line computed: what the examples below the definitions are stated with.
 -- Assumes nothing.
-use Rattle.std.specs.Prelude.{ℕ, List, map}
+use Rattle.rows.specs.Answer.{Answer}
+use Rattle.std.specs.Prelude.{ℕ, List, map, Err, Ok}
 use Rattle.rows.specs.Refusals.{refusal_of}
 use Rattle.rows.specs.Words.{word_number}
 use Rattle.structure.specs.Syntax.{validate_structured_syntax}
@@ -8,8 +9,6 @@ use Rattle.profile.specs.Profile.{missing_feature}
 use Rattle.rows.specs.Format.{meant, declared, stands_for}
 use Rattle.rows.specs.Records.{head, head_formed, head_with, little_endian, records_from, to_end, tokens_from, after_record, found, well_formed, length_fits, word_fits, word_at, span_end_at, span_start_at, kind_at, length_at, in_range, before_tokens}
 use Rattle.rows.specs.declared.answer.TypeNameError.{TypeNameError}
-use Rattle.rows.specs.declared.answer.Answer.{Answer}
-use Rattle.rows.specs.declared.answer.Answer.TheVariants.{Accepted, Refused}
 use Rattle.prescan.specs.Prescan.{prescan}
 use Rattle.reader.specs.Nodes.{count, records}
 use Rattle.reader.specs.Reading.{reading, kind_at as kind_of_row_at}
@@ -32,8 +31,8 @@ first_line (refused e m) = refusal_first_line e m
 
 -- `listing`'s first line for a file's answer.
 unfoldable pub answer_first_line : Answer → FirstLine
-answer_first_line (Accepted nodes m) = ok nodes m
-answer_first_line (Refused e m) = refusal_first_line e m
+answer_first_line (Ok a) = ok a.nodes a.steps
+answer_first_line (Err r) = refusal_first_line r.error r.steps
 
 -- The token kinds of a row of tokens ("lists of kinds, with the word at kind 0").
 unfoldable pub kinds_in : List Token → List ℕ

@@ -1,17 +1,15 @@
 -- The three demands, clause by clause. `file` is the file handed in, `before` what the tree buffer held at entry, `a` the answer, `after` what the
 -- buffer holds at exit. The entry's contract cites these by name.
 -- Assumes nothing.
-use Rattle.std.specs.Prelude.{ℕ, ◌*◌, ◌≤◌, ◌<◌, ◌≡◌, ◌↔◌, length, take, drop, replicate}
+use Rattle.rows.specs.Answer.{accepted_with, Answer}
+use Rattle.std.specs.Prelude.{ℕ, ◌*◌, ◌≤◌, ◌<◌, ◌≡◌, ◌↔◌, length, take, drop, replicate, Ok}
 use mathlib.Core.List.{List, [], map, Memᴰ}
 use Rattle.rows.specs.Kinds.{LeftParen, LeftBracket, ShiftRight}
 use Rattle.rows.specs.Format.{format, head_length, most_tokens, SameOrLater}
 use Rattle.rows.specs.Records.{RowToken, row, head, records_from, kinds_of}
 use Rattle.rows.specs.Refusals.{refusal_of}
 use Rattle.rows.specs.declared.answer.TypeNameError.{TypeNameError}
-use Rattle.rows.specs.declared.answer.Answer.{Answer}
-use Rattle.rows.specs.declared.answer.Answer.TheVariants.{Accepted}
 use Rattle.rows.specs.declared.head.Head.{Head}
-use Rattle.rows.specs.declared.head.FileHead.TheVariants.{Formed}
 use Rattle.prescan.specs.Matcher.{Pair, Paired}
 use Rattle.reader.specs.Nodes.{Nodes, g_node, b_node, count, numbers_per_token, records}
 use Rattle.reader.specs.Reading.{MAX_NESTING_DEPTH}
@@ -51,7 +49,7 @@ pub record RefusedBuffer (before after : List ℕ) (e : TypeNameError) : Type 0 
 
 -- "Whatever row is accepted": the file was accepted, with this row, this tree in front of the buffer, and these steps.
 pub record AcceptedAs (file : List ℕ) (a : Answer) (after : List ℕ) (ts : List RowToken) (x : Nodes) (steps : ℕ) : Type 0 where
-  pub answered : a ≡ Accepted (count x) steps
+  pub answered : a ≡ accepted_with (count x) steps
   pub row_read : records_from format file most_tokens head_length ≡ row ts
   pub tree_held : take (length (records x)) after ≡ records x
 
@@ -69,7 +67,7 @@ HasTree file before a after steps = TreeOf (outcome file (length before)) file b
 
 -- "Its tree is the one that demand 2's definition gives".
 abbrev pub TreeDefined : (file before : List ℕ) → Answer → (after : List ℕ) → Type 0
-TreeDefined file before a after = (nodes steps : ℕ) → a ≡ Accepted nodes steps → HasTree file before a after steps
+TreeDefined file before a after = (nodes steps : ℕ) → a ≡ accepted_with nodes steps → HasTree file before a after steps
 
 -- "and nests at most 64 deep".
 abbrev pub Nested : (file : List ℕ) → Answer → (after : List ℕ) → Type 0
@@ -115,8 +113,8 @@ WrittenOut file a after = (ts : List RowToken) (x : Nodes) (steps : ℕ) → Acc
 pub record NotBelow (file file' before' : List ℕ) (ts : List RowToken) (steps : ℕ) : Type 0 where
   pub head_of : Head
   pub head_of' : Head
-  pub formed : head format file ≡ Formed head_of
-  pub formed' : head format file' ≡ Formed head_of'
+  pub formed : head format file ≡ Ok head_of
+  pub formed' : head format file' ≡ Ok head_of'
   pub same_language : head_of'.language ≡ head_of.language
   pub same_or_later : SameOrLater head_of.standard head_of'.standard
   pub same_flag : head_of'.flag ≡ head_of.flag
@@ -128,7 +126,7 @@ pub record NotBelow (file file' before' : List ℕ) (ts : List RowToken) (steps 
 abbrev pub Stable : (file : List ℕ) → Answer → (after : List ℕ) → Type 0
 Stable file a after =
     (ts : List RowToken) (x : Nodes) (steps : ℕ) → AcceptedAs file a after ts x steps → (file' before' : List ℕ) → NotBelow file file' before' ts steps
-    → (answer file' (length before') ≡ Accepted (count x) steps) × (final_buffer file' before' ≡ filled (length before') (records x))
+    → (answer file' (length before') ≡ accepted_with (count x) steps) × (final_buffer file' before' ≡ filled (length before') (records x))
 
 -- ---- the contract
 

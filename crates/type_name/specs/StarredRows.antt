@@ -1,5 +1,6 @@
 -- The rows that document 01 works out and marks *, as one table about the definitions.
 -- Assumes nothing.
+use Rattle.rows.specs.Answer.{accepted_with}
 use Rattle.std.specs.Prelude.{ℕ, zero, suc, ◌≤◌, ◌<◌, ◌≡◌, refl, List, [], ◌∷◌, replicate}
 use Prim.Native.String.{String}
 use Rattle.std.proofs.Common.{ap, ◌∙◌, arith, le-leb}
@@ -9,7 +10,6 @@ use Rattle.rows.specs.Kinds.{Identifier, Integer, LeftParen, RightParen, Scope, 
 use Rattle.rows.specs.Words.{bytes}
 use Rattle.rows.specs.Refusals.{no_token}
 use Rattle.reader.specs.Written.{Token, sign}
-use Rattle.rows.specs.declared.answer.Answer.TheVariants.{Accepted}
 use Rattle.type_name.specs.Answers.{RowAnswer, accepted, refused, row_steps, answer_within, unlimited, answer_of, answer, final_buffer}
 use Rattle.type_name.specs.FirstLines.{FirstLine, ok, refuses, first_line, first_line_by_numbers, first_line_of, kinds_in, words_in, answer_first_line, file_first_line}
 
@@ -87,7 +87,7 @@ pub record StarredRows : Type 0 where
   -- "`int`, C89: accepted, 1 node, 2 steps"
   pub int : At C C89 1 int_row (ok 1 2)
   -- the same from the file's bytes on, with allowance 2 and, one step short, 1
-  pub int_file_answer : answer (int_file 2) 6 ≡ Accepted 1 2
+  pub int_file_answer : answer (int_file 2) 6 ≡ accepted_with 1 2
   pub int_file_buffer : final_buffer (int_file 2) (replicate 6 7) ≡ 0 ∷ 0 ∷ 1 ∷ 0 ∷ 0 ∷ 0 ∷ []
   pub int_file_short : answer_first_line (answer (int_file 1) 6) ≡ refuses 25 no_token 0 1
   -- "`long long`: C89 40 detail 1; C99 3 steps"
@@ -134,7 +134,7 @@ int_line : first_line_of C C89 1 int_row ≡ ok 1 2
 unfolding first_line_of
 int_line = refl
 
-int_file_answer_line : answer (int_file 2) 6 ≡ Accepted 1 2
+int_file_answer_line : answer (int_file 2) 6 ≡ accepted_with 1 2
 unfolding file_first_line
 int_file_answer_line = refl
 

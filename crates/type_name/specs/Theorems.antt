@@ -1,5 +1,6 @@
 -- What is proved of the definitions, on one page: each theorem with what it means. The proofs are in Laws/ and in the crates below.
 -- Assumes nothing.
+use Rattle.rows.specs.Answer.{refused_with, Answer}
 use Rattle.std.specs.Prelude.{ℕ, ◌≤◌, ◌≡◌, Bool, false, List, [], length, T}
 use Rattle.rows.specs.Notation.{◌is_one_of◌}
 use Rattle.rows.specs.Format.{SameOrLater}
@@ -7,8 +8,6 @@ use Rattle.rows.specs.Kinds.{LeftParen, LeftBracket, ShiftRight}
 use Rattle.rows.specs.Refusals.{refusal_of}
 use Rattle.rows.specs.declared.answer.TypeNameError.{TypeNameError}
 use Rattle.rows.specs.declared.answer.TypeNameError.TheVariants.{AllowancePassed}
-use Rattle.rows.specs.declared.answer.Answer.{Answer}
-use Rattle.rows.specs.declared.answer.Answer.TheVariants.{Refused}
 use Rattle.prescan.specs.Matcher.{Pair, Paired}
 use Rattle.prescan.specs.Prescan.{Scan, passed, prescan}
 use Rattle.prescan.specs.Laws.Pairs.{prescan_pairs}
@@ -53,19 +52,19 @@ starred_rows = StarredRows.starred_rows
 pub listed : (e : TypeNameError) → T ((refusal_of e).number is_one_of numbers)
 listed = Total.listed
 
-pub up_to_40 : (file : List ℕ) (room : ℕ) (e : TypeNameError) (m : ℕ) → answer file room ≡ Refused e m → (refusal_of e).number ≤ 40
+pub up_to_40 : (file : List ℕ) (room : ℕ) (e : TypeNameError) (m : ℕ) → answer file room ≡ refused_with e m → (refusal_of e).number ≤ 40
 up_to_40 = Total.up_to_40
 
 -- "Refusals 1 to 6 don't touch the tree buffer; all others fill it with zeros",
-pub refused_buffer : (file before : List ℕ) (e : TypeNameError) (m : ℕ) → answer file (length before) ≡ Refused e m → RefusedBuffer before (final_buffer file before) e
+pub refused_buffer : (file before : List ℕ) (e : TypeNameError) (m : ℕ) → answer file (length before) ≡ refused_with e m → RefusedBuffer before (final_buffer file before) e
 refused_buffer = Total.refused_buffer
 
 -- "25 step count would pass the allowance, and only then": where 25 is answered, the row's steps pass the file's allowance,
-pub only_then : (file : List ℕ) (room m : ℕ) → answer file room ≡ Refused AllowancePassed m → Spent file m
+pub only_then : (file : List ℕ) (room m : ℕ) → answer file room ≡ refused_with AllowancePassed m → Spent file m
 only_then = OnlyThen.only_then
 
 -- and 23 is never answered.
-pub never_23 : (file : List ℕ) (room : ℕ) (e : TypeNameError) (m : ℕ) → answer file room ≡ Refused e m → (refusal_of e).number ≡ 23 → ⊥
+pub never_23 : (file : List ℕ) (room : ℕ) (e : TypeNameError) (m : ℕ) → answer file room ≡ refused_with e m → (refusal_of e).number ≡ 23 → ⊥
 never_23 = NotLeftOver.never_23
 
 -- ---- a row that is read, of tokens whose kinds are known

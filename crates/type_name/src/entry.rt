@@ -38,9 +38,6 @@ pub fn parse_type_name(file: &[u8], tree: &mut [u32]) -> Answer
     let mut kinds = [0u8; MOST_TOKENS];
     let mut words = [0u8; MOST_TOKENS];
     let room = tree.len();
-    let row = read_file(file, room, &mut kinds, &mut words);
-    match row {
-        FileRow::Refused(error) => Answer::Refused { error, steps: 0 },
-        FileRow::Row { head, count } => answer_row(head, &kinds[..count], &words[..count], tree),
-    }
+    let FileRow { head, count } = read_file(file, room, &mut kinds, &mut words)?;
+    answer_row(head, &kinds[..count], &words[..count], tree)
 }

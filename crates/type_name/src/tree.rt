@@ -7,28 +7,26 @@ ghost use Rattle.profile.specs.Profile.{missing_feature};
 ghost use Rattle.type_name.specs.Answers.{answer_of, row_tree};
 ghost use Rattle.type_name.specs.EntrySays.{CheckReady, CheckSays, NodesReady, NodesSay, ReadsRow, RowReady, TreeSays, profile_answer};
 
-use prescan::boundary::Prescanned;
 use prescan::prescan::prescan_row;
-use profile::profile::{Lack, validate_profile_features};
-use reader::parser::{Parsed, parse};
-use rows::answer::{Answer, TypeNameError};
+use profile::profile::validate_profile_features;
+use reader::parser::{ParseError, Parsed, Tree, parse};
+use rows::answer::{Accepted, Answer, Refused, TypeNameError};
 use rows::head::{Head, asks_structure};
 use rows::languages;
-use structure::moves::Verdict;
-use structure::syntax::validate_structured_syntax;
+use structure::level::{Level, ReadRow};
+use structure::moves::Fault;
 
 // Refusal 40, or the tree is accepted.
 fn check_profile(head: Head, kinds: &[u8], words: &[u8], nodes: u32, steps: u32) -> Answer
-    requires { length kinds.now ≤ most_tokens }
     ensures { result ≡ profile_answer nodes steps (missing_feature head.language head.standard kinds.now words.now) }
 {
     let lack = validate_profile_features(head.language, head.standard, kinds, words);
     match lack {
-        Lack::Nothing => Answer::Accepted { nodes, steps },
-        Lack::Lacks(feature) => Answer::Refused {
+        None => Ok(Accepted { nodes, steps }),
+        Some(feature) => Err(Refused {
             error: TypeNameError::NotAvailableInProfile(feature),
             steps,
-        },
+        }),
     }
 }
 
@@ -49,19 +47,28 @@ fn check_nodes(
         return check_profile(head, kinds, words, count, steps);
     }
     let allowed = (head.allowance - steps) as usize;
-    let verdict = validate_structured_syntax(head.language, tree, kinds, words, 0, nodes, allowed);
+    let row = ReadRow {
+        language: head.language,
+        tree,
+        kinds,
+        words,
+    };
+    let level = Level {
+        row: &row,
+        from: 0,
+        to: nodes,
+    };
+    let verdict = level.validate_structured_syntax(allowed);
     match verdict {
-        Verdict::Holds(left) => {
-            check_profile(head, kinds, words, count, head.allowance - (left as u32))
-        }
-        Verdict::Fails(left) => Answer::Refused {
+        Ok(left) => check_profile(head, kinds, words, count, head.allowance - (left as u32)),
+        Err(Fault::Fails(left)) => Err(Refused {
             error: TypeNameError::NoTypeName,
             steps: head.allowance - (left as u32),
-        },
-        Verdict::Spent => Answer::Refused {
+        }),
+        Err(Fault::Spent) => Err(Refused {
             error: TypeNameError::AllowancePassed,
             steps: head.allowance,
-        },
+        }),
     }
 }
 
@@ -71,25 +78,22 @@ pub fn check_tree(head: Head, kinds: &[u8], words: &[u8], tree: &[u32], parsed: 
     ensures { CheckSays head kinds.now words.now parsed tree.now result }
 {
     match parsed {
-        Parsed::Tree { nodes, steps } => check_nodes(head, kinds, words, tree, nodes, steps),
-        Parsed::Refused { error, steps } => Answer::Refused { error, steps },
-        Parsed::AllowancePassed => Answer::Refused {
+        Ok(Tree { nodes, steps }) => check_nodes(head, kinds, words, tree, nodes, steps),
+        Err(ParseError::Refused { error, steps }) => Err(Refused { error, steps }),
+        Err(ParseError::AllowancePassed) => Err(Refused {
             error: TypeNameError::AllowancePassed,
             steps: head.allowance,
-        },
+        }),
     }
 }
 
-// A row's tree, in front of the buffer. The buffer is lent to the prescan for its stack.
+// A row's tree, in front of the buffer. The buffer is lent to the prescan for its stack. The other reading has two such lines too: one function that is
+// handed the reading would be no shorter.
 fn read_tree(language: u8, kinds: &[u8], tree: &mut [u32], allowance: u32) -> Parsed
     requires { (length kinds.now ≤ most_tokens) × (numbers_per_token * length kinds.now ≤ length tree.old) }
     ensures { TreeSays kinds.now allowance (row_tree language kinds.now) result tree.new }
 {
-    let scanned = prescan_row(language, kinds, tree);
-    match scanned {
-        Prescanned::Refused(error) => return Parsed::Refused { error, steps: 0 },
-        Prescanned::Passed => {}
-    }
+    prescan_row(language, kinds, tree)?;
     parse(kinds, language == languages::CPP, tree, allowance)
 }
 

@@ -1,4 +1,3 @@
-pub mod Tests
 pub mod Bounds
 pub mod Chains
 pub mod Runs

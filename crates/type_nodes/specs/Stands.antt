@@ -1,11 +1,10 @@
 -- Where nodes stand in the node records of a tree: what contracts say of a range of nodes. Document 01, "Node record".
 -- Assumes nothing.
-use Rattle.std.specs.Prelude.{ℕ, suc, ◌+◌, ◌*◌, ◌≤◌, ◌<◌, ◌≡◌, false, List, length, eqb, if◌then◌else◌}
+use Rattle.std.specs.Prelude.{ℕ, suc, ◌+◌, ◌*◌, ◌≤◌, ◌<◌, ◌≡◌, false, List, length, eqb, if◌then◌else◌, Option, Some, None}
 use Rattle.rows.specs.Kinds.{Comma}
 use Rattle.reader.specs.Nodes.{NodeKind, number, Nodes, none, node, count, node_width, kind_of, token_of, extent_of, numbers_bound}
 use Rattle.type_nodes.specs.Nodes.{empty, shape}
-use Rattle.type_nodes.specs.declared.nodes.Lookup.{Lookup}
-use Rattle.type_nodes.specs.declared.nodes.Lookup.TheVariants.{Node, Nothing}
+use Rattle.type_nodes.specs.declared.nodes.Node.{Node}
 
 -- The nodes stand in the records from node `from` up to node `to`, and their tokens in the row.
 pub data Stands (tree kinds : List ℕ) : (from to : ℕ) → Nodes → Type 0 where
@@ -51,6 +50,6 @@ pub record WordedNodes (tree kinds words : List ℕ) (from to : ℕ) : Type 0 wh
   pub worded : length words ≡ length kinds
 
 -- What a lookup at a node number finds of the nodes that stand there.
-abbrev pub Finds : (kinds : List ℕ) (at : ℕ) → Lookup → Nodes → Type 0
-Finds kinds at (Node s t n) x = (empty x ≡ false) × (s ≡ shape kinds x) × (t ≡ token_of_first x) × (n ≡ suc (at + count (below x)))
-Finds kinds at Nothing x = x ≡ none
+abbrev pub Finds : (kinds : List ℕ) (at : ℕ) → Option Node → Nodes → Type 0
+Finds kinds at (Some d) x = (empty x ≡ false) × (d.shape ≡ shape kinds x) × (d.token ≡ token_of_first x) × (d.next ≡ suc (at + count (below x)))
+Finds kinds at None x = x ≡ none

@@ -43,13 +43,9 @@ fn how_many(seen: &[u32; COUNTED_WORDS], words: &[u8]) -> usize
     ensures { result ≡ how_many words.now seen.now }
 {
     let mut met = 0;
-    let mut i = 0;
-    while i < words.len() {
-        if has(seen, words[i]) {
+    for &word in words {
+        if has(seen, word) {
             met += 1;
-            i += 1;
-        } else {
-            i += 1;
         }
     }
     met
@@ -69,14 +65,12 @@ fn too_often(seen: &[u32; COUNTED_WORDS], words: &[u8]) -> bool
     requires { HaveCounts words.now }
     ensures { result ≡ too_often words.now seen.now }
 {
-    let mut over = false;
-    let mut i = 0;
-    while i < words.len() {
-        let word = words[i];
-        over = over | (most(word) < times(seen, word));
-        i += 1;
+    for &word in words {
+        if most(word) < times(seen, word) {
+            return true;
+        }
     }
-    over
+    false
 }
 
 // `builtin_words.len()`

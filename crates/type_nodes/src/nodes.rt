@@ -11,15 +11,12 @@ use reader::nodes::{TOKEN_NODE, node_extent, node_kind, node_token};
 use rows::kinds::{DOT, IDENTIFIER};
 use rows::word_numbers::{NO_WORD, exactly};
 
-// `next`: where the nodes after the node begin.
+// What the records say of a node of a level; `next`: where the nodes after it begin.
 #[derive(Clone, Copy)]
-pub enum Lookup {
-    Node {
-        shape: u8,
-        token: usize,
-        next: usize,
-    },
-    Nothing,
+pub struct Node {
+    pub shape: u8,
+    pub token: usize,
+    pub next: usize,
 }
 
 // The shape of the node at a place of a level.
@@ -46,17 +43,18 @@ pub fn node_end(tree: &[u32], kinds: &[u8], at: usize, to: usize) -> usize
     at + node_extent(tree, at)
 }
 
-pub fn node_at(tree: &[u32], kinds: &[u8], at: usize, to: usize) -> Lookup
+// The node at a place, if the level goes on there.
+pub fn node_at(tree: &[u32], kinds: &[u8], at: usize, to: usize) -> Option<Node>
     requires { NodesStand tree.now kinds.now at to }
     ensures { Of tree.now kinds.now at to (λ x. Finds kinds.now at result x) }
 {
     if at >= to {
-        return Lookup::Nothing;
+        return None;
     }
     let shape = shape_at(tree, kinds, at, to);
     let token = node_token(tree, at);
     let next = node_end(tree, kinds, at, to);
-    Lookup::Node { shape, token, next }
+    Some(Node { shape, token, next })
 }
 
 // The word number of the node at a place, if it is an identifier.
@@ -64,17 +62,11 @@ pub fn node_identifier(tree: &[u32], kinds: &[u8], words: &[u8], at: usize, to: 
     requires { WordedNodes tree.now kinds.now words.now at to }
     ensures { Of tree.now kinds.now at to (λ x. result ≡ node_identifier kinds.now words.now x) }
 {
-    let found = node_at(tree, kinds, at, to);
-    let Lookup::Node {
-        shape,
-        token,
-        next: _,
-    } = found
-    else {
+    let Some(node) = node_at(tree, kinds, at, to) else {
         return NO_WORD;
     };
-    if shape == IDENTIFIER {
-        return words[token];
+    if node.shape == IDENTIFIER {
+        return words[node.token];
     }
     NO_WORD
 }
@@ -91,16 +83,10 @@ pub fn is_single_token(tree: &[u32], kinds: &[u8], kind: u8, from: usize, to: us
     requires { (kind < NoNode) × NodesStand tree.now kinds.now from to }
     ensures { Of tree.now kinds.now from to (λ x. result ≡ is_single_token kinds.now kind x) }
 {
-    let found = node_at(tree, kinds, from, to);
-    let Lookup::Node {
-        shape,
-        token: _,
-        next,
-    } = found
-    else {
+    let Some(node) = node_at(tree, kinds, from, to) else {
         return false;
     };
-    (shape == kind) & (next == to)
+    (node.shape == kind) & (node.next == to)
 }
 
 pub fn is_ellipsis(tree: &[u32], kinds: &[u8], from: usize, to: usize) -> bool

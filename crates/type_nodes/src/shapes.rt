@@ -1,4 +1,4 @@
-// Shapes: what a node is to the rules is one number. The shape of a T is the kind of its token.
+// Shapes: what a node is to the rules is one number, and no enum: the shape of a T is the kind of its token, which may be any byte.
 
 use rows::kinds::NO_TOKEN_KIND;
 

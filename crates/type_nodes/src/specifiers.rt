@@ -122,9 +122,8 @@ fn parenthesis_word(
         !flags.saw_named_type & !flags.saw_elaborated & valid,
         SpecifierFlags {
             saw_named_type: true,
-            saw_elaborated: flags.saw_elaborated,
             saw_bit_int: word == BIT_INT,
-            previous_was_scope: flags.previous_was_scope,
+            ..flags
         },
     )
 }
@@ -151,10 +150,8 @@ fn elaborated_word(
     on_if(
         !foreign & !flags.saw_named_type & none & !flags.saw_elaborated & (right == IDENTIFIER),
         SpecifierFlags {
-            saw_named_type: flags.saw_named_type,
             saw_elaborated: true,
-            saw_bit_int: flags.saw_bit_int,
-            previous_was_scope: flags.previous_was_scope,
+            ..flags
         },
     )
 }
@@ -168,10 +165,8 @@ fn builtin_word(word: u8, flags: SpecifierFlags) -> SpecifierMove
         !flags.saw_elaborated & (!flags.saw_named_type | sign),
         word,
         SpecifierFlags {
-            saw_named_type: flags.saw_named_type,
-            saw_elaborated: flags.saw_elaborated,
-            saw_bit_int: flags.saw_bit_int,
             previous_was_scope: false,
+            ..flags
         },
     )
 }
@@ -184,9 +179,8 @@ fn name_word(none: bool, flags: SpecifierFlags) -> SpecifierMove
         none & (!flags.saw_named_type | flags.previous_was_scope | flags.saw_elaborated),
         SpecifierFlags {
             saw_named_type: true,
-            saw_elaborated: flags.saw_elaborated,
-            saw_bit_int: flags.saw_bit_int,
             previous_was_scope: false,
+            ..flags
         },
     )
 }
@@ -213,10 +207,8 @@ fn specifier_scope(
     on_if(
         (language == CPP) & !flags.previous_was_scope & known & (!leading | introduces),
         SpecifierFlags {
-            saw_named_type: flags.saw_named_type,
-            saw_elaborated: flags.saw_elaborated,
-            saw_bit_int: flags.saw_bit_int,
             previous_was_scope: true,
+            ..flags
         },
     )
 }

@@ -1,7 +1,7 @@
 -- A sound file is the file of its own fields.
 -- Assumes nothing.
 use Prim.Native.Nat.{ℕ, zero, suc, ◌+◌, ◌*◌, ◌-◌, ◌/◌, ◌%◌, ◌^◌, ◌≤◌, ◌<◌}
-use Rattle.std.specs.Prelude.{◌≡◌, Bool, not, ◌&&◌, get_or, drop, leb, ltb}
+use Rattle.std.specs.Prelude.{◌≡◌, Bool, not, ◌&&◌, get_or, drop, leb, ltb, Err, None, Ok, Option, Result, Some}
 use Rattle.std.proofs.Math.Path.{refl, sym, ap}
 use Rattle.std.proofs.Common.{◌∙◌, arith, mod-eq_of_lt, length-drop, drop_of_length-le, take-append-drop, drop-cons, take-add, nltb→le}
 use Rattle.std.proofs.Math.Bool.{true, false}
@@ -15,10 +15,6 @@ use Rattle.rows.specs.Format.{short_bytes, allowance_bytes, head_length, at_leng
 use Rattle.rows.specs.declared.format.Format.{Format}
 use Rattle.rows.specs.declared.answer.TypeNameError.{TypeNameError}
 use Rattle.rows.specs.declared.head.Head.{Head}
-use Rattle.rows.specs.declared.head.Meaning.{Meaning}
-use Rattle.rows.specs.declared.head.Meaning.TheVariants.{Means, Unknown}
-use Rattle.rows.specs.declared.head.FileHead.{FileHead}
-use Rattle.rows.specs.declared.head.FileHead.TheVariants.{Formed, Refused}
 use Rattle.rows.specs.Records.{byte_values, little_endian, RowToken, head, head_formed, head_with, kind_at, length_at, span_start_at, span_end_at, word_at}
 use Rattle.rows.specs.Laws.Tests.{by_if}
 use Rattle.rows.specs.Laws.Tokens.{formed_fits}
@@ -118,27 +114,27 @@ pub record HeadIs (f : Format) (file : List ℕ) : Type 0 where
   pub has_kind : little_endian short_bytes file at_kind ≡ f.head_kind
   pub has_flag : get_or file at_flag 0 ≤ f.greatest_flag
   pub the_head : Head
-  pub is_head : head f file ≡ Formed the_head
-  pub is_meant : meant f (get_or file at_language 0) (get_or file at_standard 0) ≡ Means the_head.standard
+  pub is_head : head f file ≡ Ok the_head
+  pub is_meant : meant f (get_or file at_language 0) (get_or file at_standard 0) ≡ Some the_head.standard
   pub has_fields : the_head ≡ record { language = get_or file at_language 0; standard = the_head.standard; flag = get_or file at_flag 0; allowance = little_endian allowance_bytes file at_allowance }
 
-refused_not_formed : {e : TypeNameError} {h : Head} → Refused e ≡ Formed h → ⊥
+refused_not_formed : {e : TypeNameError} {h : Head} → Err e ≡ Ok h → ⊥
 refused_not_formed q = let z : ◌≡◌ {A = ℕ} 0 1 = ap which q in omega (arith, z)
   where
-    which : FileHead → ℕ
-    which (Refused e) = 0
-    which (Formed h) = 1
+    which : Result Head TypeNameError → ℕ
+    which (Err e) = 0
+    which (Ok h) = 1
 
-abbrev standard_in : FileHead → ℕ
-standard_in (Refused e) = 0
-standard_in (Formed h) = h.standard
+abbrev standard_in : Result Head TypeNameError → ℕ
+standard_in (Err e) = 0
+standard_in (Ok h) = h.standard
 
-module _ (f : Format) (file : List ℕ) (h : Head) (e : head f file ≡ Formed h) where
-  by_meaning : length file ≤ f.file_limit → T (head_formed f file) → (m : Meaning) → meant f (get_or file at_language 0) (get_or file at_standard 0) ≡ m
-      → head_with f file m ≡ Formed h → HeadIs f file
+module _ (f : Format) (file : List ℕ) (h : Head) (e : head f file ≡ Ok h) where
+  by_meaning : length file ≤ f.file_limit → T (head_formed f file) → (m : Option ℕ) → meant f (get_or file at_language 0) (get_or file at_standard 0) ≡ m
+      → head_with f file m ≡ Ok h → HeadIs f file
   unfolding head_with head_formed
-  by_meaning short t Unknown q r = absurd (refused_not_formed r)
-  by_meaning short t (Means s) q r =
+  by_meaning short t None q r = absurd (refused_not_formed r)
+  by_meaning short t (Some s) q r =
       let u = and_yes (leb head_length (length file) && eqb (little_endian short_bytes file at_length) head_length && eqb (little_endian short_bytes file at_kind) f.head_kind) (leb (get_or file at_flag 0) f.greatest_flag) t in
       let v = and_yes (leb head_length (length file) && eqb (little_endian short_bytes file at_length) head_length) (eqb (little_endian short_bytes file at_kind) f.head_kind) u.0 in
       let w = and_yes (leb head_length (length file)) (eqb (little_endian short_bytes file at_length) head_length) v.0 in
@@ -155,14 +151,14 @@ module _ (f : Format) (file : List ℕ) (h : Head) (e : head f file ≡ Formed h
         has_fields = sym (formed_same (rw same at r));
       }
     where
-      formed_same : {g : Head} → Formed g ≡ Formed h → g ≡ h
+      formed_same : {g : Head} → ◌≡◌ {A = Result Head TypeNameError} (Ok g) (Ok h) → g ≡ h
       formed_same p = cc
 
   pub head_is : HeadIs f file
   unfolding head
   head_is =
-      by_if (λ (x : FileHead). x ≡ Formed h → HeadIs f file) (ltb f.file_limit (length file)) (λ _ q. absurd (refused_not_formed q))
-      (λ t. by_if (λ (x : FileHead). x ≡ Formed h → HeadIs f file) (not (head_formed f file)) (λ _ q. absurd (refused_not_formed q))
+      by_if (λ (x : Result Head TypeNameError). x ≡ Ok h → HeadIs f file) (ltb f.file_limit (length file)) (λ _ q. absurd (refused_not_formed q))
+      (λ t. by_if (λ (x : Result Head TypeNameError). x ≡ Ok h → HeadIs f file) (not (head_formed f file)) (λ _ q. absurd (refused_not_formed q))
       (λ u. by_meaning (nltb→le f.file_limit (length file) t) (not_not (head_formed f file) u) (meant f (get_or file at_language 0) (get_or file at_standard 0)) refl)) e
     where
       not_not : (b : Bool) → T (not (not b)) → T b

@@ -1,7 +1,9 @@
 -- The loop that checks a file's records: what is left of them decides, with what was counted before.
 -- Assumes nothing.
+use Rattle.convert.specs.declared.check.Sound.{Sound}
+use Rattle.rows.specs.declared.answer.TypeNameError.{TypeNameError}
 use Prim.Native.Nat.{ℕ, suc, ◌+◌, ◌-◌, ◌≤◌, ◌<◌}
-use Rattle.std.specs.Prelude.{◌≡◌, Bool, ◌&&◌, ◌||◌, List, map, leb, ltb, if◌then◌else◌}
+use Rattle.std.specs.Prelude.{◌≡◌, Bool, ◌&&◌, ◌||◌, List, map, leb, ltb, if◌then◌else◌, Err, None, Ok, Result}
 use Rattle.std.proofs.Math.Path.{refl, sym}
 use Rattle.std.proofs.Common.{◌∙◌}
 use Rattle.std.proofs.Math.Bool.{true, false, not}
@@ -13,26 +15,22 @@ use Rattle.std.proofs.lemmas.List.{length-map}
 use Rattle.rows.specs.Format.{head_length, most_tokens}
 use Rattle.rows.specs.declared.format.Format.{Format}
 use Rattle.rows.specs.declared.answer.TypeNameError.TheVariants.{InvalidRecord, TooManyRecords}
-use Rattle.rows.specs.declared.head.FileHead.{FileHead}
 use Rattle.rows.specs.declared.head.Head.{Head}
-use Rattle.rows.specs.declared.token.TokenRecord.TheVariants.{Formed, Malformed}
-use Rattle.rows.specs.Records.{Tokens, malformed, tokens, before_tokens, row, refused, head, found, span_end_at, tokens_from, to_end, records_from}
+use Rattle.rows.specs.Records.{Tokens, malformed, tokens, before_tokens, row, refused, head, found, span_end_at, tokens_from, to_end, records_from, formed}
 use Rattle.rows.specs.Laws.Tests.{and_true}
 use Rattle.rows.specs.Laws.RowFacts.{token_there}
 use Rattle.rows.specs.Laws.RowLoop.{ends, begins_token, begins_malformed}
 use Rattle.type_name.specs.FileRow.{passes, on_pass, head_read, row_read}
 use Rattle.convert.specs.Fields.{token_fields, fields_with, fields_of}
 use Rattle.convert.specs.Conversions.{numbers_32, over_32_bits}
-use Rattle.convert.specs.ConvertSays.{checked_in, row_fields}
-use Rattle.convert.specs.declared.check.Checked.{Checked}
-use Rattle.convert.specs.declared.check.Checked.TheVariants.{Sound, Refused}
+use Rattle.convert.specs.ConvertSays.{checked_in, row_fields, sound}
 
 module _ (f : Format) (file : List ℕ) where
   -- What is told of records, so many tokens before them, which end below 2^32 or not.
-  unfoldable pub checked_rest : (count : ℕ) (narrow : Bool) → Tokens → Checked
-  checked_rest count narrow (malformed offset) = Refused (InvalidRecord offset)
+  unfoldable pub checked_rest : (count : ℕ) (narrow : Bool) → Tokens → Result Sound TypeNameError
+  checked_rest count narrow (malformed offset) = Err (InvalidRecord offset)
   checked_rest count narrow (tokens ts next) =
-      if leb (length file) next then Sound (count + length ts) (narrow && not (over_32_bits (map (token_fields f file) ts))) else Refused TooManyRecords
+      if leb (length file) next then sound (count + length ts) (narrow && not (over_32_bits (map (token_fields f file) ts))) else Err TooManyRecords
 
   -- All of them.
   whole : (r : Tokens) → checked_in (on_pass (row_read (to_end f file r)) (λ ts. passes (fields_with f file ts))) ≡ checked_rest 0 true r
@@ -41,7 +39,7 @@ module _ (f : Format) (file : List ℕ) where
   whole (tokens ts next) = by_end (leb (length file) next)
     where
       by_end : (b : Bool) → checked_in (on_pass (row_read (if b then row ts else refused TooManyRecords)) (λ us. passes (fields_with f file us)))
-          ≡ (if b then Sound (0 + length ts) (true && not (over_32_bits (map (token_fields f file) ts))) else Refused TooManyRecords)
+          ≡ (if b then sound (0 + length ts) (true && not (over_32_bits (map (token_fields f file) ts))) else Err TooManyRecords)
       by_end true = rw (length-map ts (token_fields f file), zero-add (length ts)) refl
       by_end false = refl
 
@@ -73,19 +71,19 @@ module _ (f : Format) (file : List ℕ) where
       rw (many, ends_below narrow (span_end_at f file at) (over_32_bits (map (token_fields f file) ts))) refl
 
   module _ {at count : ℕ} {narrow : Bool} (l : CheckLoop at count narrow) where
-    pub check_full : at < length file → count ≡ most_tokens → Refused TooManyRecords ≡ checked_in (row_fields f file)
+    pub check_full : at < length file → count ≡ most_tokens → Err TooManyRecords ≡ checked_in (row_fields f file)
     unfolding checked_rest tokens_from
     check_full p e =
         let none : most_tokens - count ≡ 0 = omega (arith, e) in
         sym (l.is ∙ rw (none, tokens_from, lt-leb (length file) at p) refl)
 
-    pub check_malformed : at < length file → (count ≡ most_tokens → ⊥) → found f file at ≡ Malformed → Refused (InvalidRecord at) ≡ checked_in (row_fields f file)
+    pub check_malformed : at < length file → (count ≡ most_tokens → ⊥) → found f file at ≡ None → Err (InvalidRecord at) ≡ checked_in (row_fields f file)
     unfolding checked_rest
     check_malformed p d e =
         let more : most_tokens - count ≡ suc (most_tokens - (count + 1)) = omega (arith, l.few, d) in
         sym (l.is ∙ rw (more, begins_malformed f file (most_tokens - (count + 1)) at p e) refl)
 
-    pub check_token : at < length file → (count ≡ most_tokens → ⊥) → (k n : ℕ) → found f file at ≡ Formed k n → CheckLoop (at + n) (count + 1) (narrow && ltb (span_end_at f file at) numbers_32)
+    pub check_token : at < length file → (count ≡ most_tokens → ⊥) → (k n : ℕ) → found f file at ≡ formed k n → CheckLoop (at + n) (count + 1) (narrow && ltb (span_end_at f file at) numbers_32)
     check_token p d k n e =
         let more : most_tokens - count ≡ suc (most_tokens - (count + 1)) = omega (arith, l.few, d) in
         record {
@@ -93,7 +91,7 @@ module _ (f : Format) (file : List ℕ) where
           is = l.is ∙ rw (more, begins_token f file (most_tokens - (count + 1)) at k n p e) (one_more count narrow at k (tokens_from f file (most_tokens - (count + 1)) (at + n)));
         }
 
-    pub check_ends : length file ≤ at → Sound count narrow ≡ checked_in (row_fields f file)
+    pub check_ends : length file ≤ at → sound count narrow ≡ checked_in (row_fields f file)
     unfolding checked_rest over_32_bits
     check_ends p =
         let all : count + 0 ≡ count = omega arith in
@@ -101,10 +99,10 @@ module _ (f : Format) (file : List ℕ) where
 
   -- ---- the whole file
 
-  pub head_refused : {e : _} → head f file ≡ FileHead.Refused e → Refused e ≡ checked_in (fields_of f file)
+  pub head_refused : {e : _} → head f file ≡ Err e → Err e ≡ checked_in (fields_of f file)
   unfolding checked_in fields_of on_pass head_read
   head_refused q = rw (q, head_read, on_pass, checked_in) refl
 
-  pub head_formed : {h : Head} → head f file ≡ FileHead.Formed h → fields_of f file ≡ row_fields f file
+  pub head_formed : {h : Head} → head f file ≡ Ok h → fields_of f file ≡ row_fields f file
   unfolding row_fields fields_of on_pass head_read
   head_formed q = rw (q, head_read, on_pass) refl

@@ -1,6 +1,6 @@
 -- The two conversions from what a check tells of their file.
 -- Assumes nothing.
-use Rattle.std.specs.Prelude.{ℕ, ◌+◌, ◌*◌, ◌-◌, ◌≤◌, ◌<◌, ◌≡◌, Bool, true, false, not, List, length, get_or}
+use Rattle.std.specs.Prelude.{ℕ, ◌+◌, ◌*◌, ◌-◌, ◌≤◌, ◌<◌, ◌≡◌, Bool, true, false, not, List, length, get_or, Err}
 use Rattle.std.proofs.Math.Path.{refl, sym, ap}
 use Rattle.std.proofs.Common.{◌∙◌, arith}
 use borrow.Author.Tests.{lt-ltb, le-ltb}
@@ -14,11 +14,9 @@ use Rattle.type_name.specs.FileRow.{Outcome, untouched, passes, on_pass}
 use Rattle.convert.specs.Standards.{widened_standard, narrowed_standard}
 use Rattle.convert.specs.Fields.{Fields, with_standard, token_fields, fields_with, fields_of, file_bytes}
 use Rattle.convert.specs.Conversions.{widened, over_32_bits, old_form, narrowed, with_output, widen_outcome, narrow_outcome, convert_answer, output_in}
-use Rattle.convert.specs.ConvertSays.{Counted, bytes_in, checked_in}
+use Rattle.convert.specs.ConvertSays.{Counted, bytes_in, checked_in, sound}
 use Rattle.convert.specs.Laws.Reads.{read_of, SoundTold, refusal_told, sound_told}
 use Rattle.convert.specs.Laws.Sizes.{words_long, file_long, stand_long}
-use Rattle.convert.specs.declared.entry.ConvertAnswer.TheVariants.{Refused}
-use Rattle.convert.specs.declared.check.Checked.TheVariants as Checked
 
 -- ---- how long a sound file is, and how many tokens it has
 
@@ -46,7 +44,7 @@ module _ (f : Format) (file : List ℕ) (c : Fields) (e : fields_of f file ≡ p
   sound_standard = let read = read_of f file c e in rw read.fields_are refl
 
 -- The same from what a check tells.
-module _ (f : Format) (file : List ℕ) {count : ℕ} {narrow : Bool} (q : Checked.Sound count narrow ≡ checked_in (fields_of f file)) where
+module _ (f : Format) (file : List ℕ) {count : ℕ} {narrow : Bool} (q : sound count narrow ≡ checked_in (fields_of f file)) where
   pub told_few : count ≤ most_tokens
   told_few = let t = sound_told (fields_of f file) (sym q) in omega (arith, t.is_count, sound_few f file t.fields t.is)
 
@@ -70,7 +68,7 @@ long_with f standard c = file_long f (with_standard standard c)
 
 -- What a refusal comes to, whatever the output.
 module _ (before : List ℕ) {o : Outcome (List ℕ)} {e : TypeNameError} (q : o ≡ untouched e) where
-  pub refused_answer : Refused e ≡ convert_answer o
+  pub refused_answer : Err e ≡ convert_answer o
   unfolding convert_answer
   refused_answer = rw (q, convert_answer) refl
 
@@ -81,11 +79,11 @@ module _ (before : List ℕ) {o : Outcome (List ℕ)} {e : TypeNameError} (q : o
 -- ---- `widen`
 
 module _ (file : List ℕ) where
-  pub widen_refused : {e : TypeNameError} (room : ℕ) → Checked.Refused e ≡ checked_in (fields_of old_format file) → widen_outcome file room ≡ untouched e
+  pub widen_refused : {e : TypeNameError} (room : ℕ) → Err e ≡ checked_in (fields_of old_format file) → widen_outcome file room ≡ untouched e
   unfolding widen_outcome widened on_pass
   widen_refused room q = rw (refusal_told (fields_of old_format file) (sym q), on_pass) refl
 
-  module _ {count : ℕ} {narrow : Bool} (q : Checked.Sound count narrow ≡ checked_in (fields_of old_format file)) where
+  module _ {count : ℕ} {narrow : Bool} (q : sound count narrow ≡ checked_in (fields_of old_format file)) where
     told_old : SoundTold (fields_of old_format file) count narrow
     told_old = sound_told (fields_of old_format file) (sym q)
 
@@ -124,11 +122,11 @@ module _ (c : Fields) where
     old_written p = rw (e, le-ltb old_format.file_limit (length (file_bytes old_format c)) p) refl
 
 module _ (file : List ℕ) where
-  pub narrow_refused : {e : TypeNameError} (room : ℕ) → Checked.Refused e ≡ checked_in (fields_of format file) → narrow_outcome file room ≡ untouched e
+  pub narrow_refused : {e : TypeNameError} (room : ℕ) → Err e ≡ checked_in (fields_of format file) → narrow_outcome file room ≡ untouched e
   unfolding narrow_outcome narrowed on_pass
   narrow_refused room q = rw (refusal_told (fields_of format file) (sym q), on_pass) refl
 
-  module _ {count : ℕ} {narrow : Bool} (q : Checked.Sound count narrow ≡ checked_in (fields_of format file)) where
+  module _ {count : ℕ} {narrow : Bool} (q : sound count narrow ≡ checked_in (fields_of format file)) where
     told_new : SoundTold (fields_of format file) count narrow
     told_new = sound_told (fields_of format file) (sym q)
 

@@ -1,6 +1,6 @@
 -- One token record: what a well-formed one says of its fields, and that its bytes are read back as those fields.
 -- Assumes nothing.
-use Rattle.std.specs.Prelude.{ℕ, ◌+◌, ◌-◌, ◌^◌, ◌≤◌, ◌<◌, ◌≡◌, Bool, ◌&&◌, List, ◌++◌, drop, T, ltb, if◌then◌else◌}
+use Rattle.std.specs.Prelude.{ℕ, ◌+◌, ◌-◌, ◌^◌, ◌≤◌, ◌<◌, ◌≡◌, Bool, ◌&&◌, List, ◌++◌, drop, T, ltb, if◌then◌else◌, None, Option, Some}
 use Rattle.std.proofs.Math.Path.{refl, sym}
 use Rattle.std.proofs.Common.{ap, ◌∙◌, append_assoc, length-append, take_at, drop_at, drop-drop}
 use Rattle.std.proofs.Math.Bool.{true, false}
@@ -15,10 +15,9 @@ use Rattle.rows.specs.Format.{short_bytes, at_kind, at_span, bytes_of, span_byte
 use Rattle.rows.specs.declared.format.Format.{Format}
 use Rattle.rows.specs.declared.format.SpanWidth.{SpanWidth}
 use Rattle.rows.specs.declared.format.SpanWidth.TheVariants.{Four, Eight}
-use Rattle.rows.specs.Records.{byte_values, little_endian, in_range, length_at, kind_at, span_start_at, span_end_at, word_at, word_fits, length_fits, well_formed, found}
+use Rattle.rows.specs.Records.{byte_values, little_endian, in_range, length_at, kind_at, span_start_at, span_end_at, word_at, word_fits, length_fits, well_formed, found, formed}
 use Rattle.rows.specs.Laws.Tokens.{formed_fits, by_length}
 use Rattle.rows.specs.declared.token.TokenRecord.{TokenRecord}
-use Rattle.rows.specs.declared.token.TokenRecord.TheVariants.{Formed, Malformed}
 use Rattle.text.specs.Text.{little_endian_bytes}
 use Rattle.text.specs.Laws.Records.{bytes_long, bytes_read, read_at}
 use Rattle.convert.specs.Fields.{TokenFields, token_bytes}
@@ -43,16 +42,16 @@ pub record TokenFits (f : Format) (t : TokenFields) : Type 0 where
 
 -- ---- what a well-formed record says
 
-abbrev is_formed : TokenRecord → ℕ
-is_formed (Formed k n) = 1
-is_formed Malformed = 0
+abbrev is_formed : Option TokenRecord → ℕ
+is_formed (Some r) = 1
+is_formed None = 0
 
 module _ (f : Format) (file : List ℕ) (at : ℕ) where
-  well' : (b : Bool) {k n : ℕ} → (if b then Formed (kind_at f file at) (length_at f file at) else Malformed) ≡ Formed k n → T b
+  well' : (b : Bool) {k n : ℕ} → (if b then formed (kind_at f file at) (length_at f file at) else None) ≡ formed k n → T b
   well' true e = tt
   well' false e = let clash : ◌≡◌ {A = ℕ} 0 1 = ap is_formed e in absurd (omega (arith, clash))
 
-  module _ {k n : ℕ} (e : found f file at ≡ Formed k n) where
+  module _ {k n : ℕ} (e : found f file at ≡ formed k n) where
     well : T (well_formed f file at)
     unfolding found
     well = well' (well_formed f file at) e
@@ -199,6 +198,6 @@ module _ (f : Format) (file rest : List ℕ) (at : ℕ) (t : TokenFields) (fits 
           sym (rw (written_kind, e, written_length) (eq-eqb n (token_length f) (omega (arith, fits.worded.of_other (eqb-false t.kind Identifier e)))))
 
   -- A written record is well formed.
-  pub written_found : found f file at ≡ Formed (kind_at f file at) (length_at f file at)
+  pub written_found : found f file at ≡ formed (kind_at f file at) (length_at f file at)
   written_found =
       sym (by_length f file at (length_at f file at) refl (kind_at f file at) refl (omega (arith, written_inside)) (rw written_kind fits.known) (rw (written_start, written_end) fits.ordered) true fits_there)

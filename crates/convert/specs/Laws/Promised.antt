@@ -1,6 +1,7 @@
 -- The promises of the conversions.
 -- Assumes nothing.
-use Rattle.std.specs.Prelude.{ℕ, ◌+◌, ◌*◌, ◌^◌, ◌≤◌, ◌<◌, ◌≡◌, Bool, ◌||◌, List, [], ◌∷◌, map, length, leb, ltb, if◌then◌else◌}
+use Rattle.rows.specs.declared.answer.TypeNameError.{TypeNameError}
+use Rattle.std.specs.Prelude.{ℕ, ◌+◌, ◌*◌, ◌^◌, ◌≤◌, ◌<◌, ◌≡◌, Bool, ◌||◌, List, [], ◌∷◌, map, length, leb, ltb, if◌then◌else◌, Err, Ok, Result, Some}
 use Rattle.std.proofs.Math.Path.{refl, ap, subst}
 use Rattle.std.proofs.Common.{sym, ◌∙◌, true≢false, inl, inr, arith}
 use Rattle.std.proofs.Math.Bool.{true, false}
@@ -10,8 +11,6 @@ use Rattle.rows.specs.declared.format.Format.{Format}
 use Rattle.rows.specs.Refusals.{refusal_of}
 use Rattle.rows.specs.declared.answer.TypeNameError.TheVariants.{FileTooLong, ShortBuffer, OffsetOver32Bits}
 use Rattle.rows.specs.declared.head.Head.{Head}
-use Rattle.rows.specs.declared.head.FileHead.TheVariants.{Formed}
-use Rattle.rows.specs.declared.head.Meaning.TheVariants.{Means}
 use Rattle.rows.specs.Records.{byte_values, RowToken, row, head, kind_at, length_at, span_end_at, records_from}
 use Rattle.rows.specs.Laws.Tokens.{formed_fits}
 use Rattle.reader.specs.Nodes.{numbers_per_token}
@@ -32,8 +31,6 @@ use Rattle.convert.specs.Laws.Reads.{read_of}
 use Rattle.convert.specs.Laws.Sizes.{file_long}
 use Rattle.convert.specs.Laws.Entries.{sound_long, sound_few, sound_short}
 use Rattle.convert.specs.Laws.SameAnswers.{same_many}
-use Rattle.convert.specs.declared.entry.ConvertAnswer.{ConvertAnswer}
-use Rattle.convert.specs.declared.entry.ConvertAnswer.TheVariants.{Converted, Refused}
 
 -- ---- the fields of a sound file fit a format
 
@@ -87,9 +84,9 @@ module _ (f : Format) (file : List ℕ) (all : AllBytes file) (c : Fields) (e : 
   its_fields : c ≡ fields_with f file (read_of f file c e).row_tokens
   its_fields = (read_of f file c e).fields_are
 
-  pub its_meaning : meant f c.language c.standard ≡ Means its_head.the_head.standard
+  pub its_meaning : meant f c.language c.standard ≡ Some its_head.the_head.standard
   unfolding fields_with
-  its_meaning = subst (λ (x : Fields). meant f x.language x.standard ≡ Means its_head.the_head.standard) (sym its_fields) its_head.is_meant
+  its_meaning = subst (λ (x : Fields). meant f x.language x.standard ≡ Some its_head.the_head.standard) (sym its_fields) its_head.is_meant
 
   head_small : c.allowance < byte_values ^ allowance_bytes
   unfolding fields_with
@@ -102,7 +99,7 @@ module _ (f : Format) (file : List ℕ) (all : AllBytes file) (c : Fields) (e : 
       subst (λ (x : Fields). record { language = x.language; standard = its_head.the_head.standard; flag = x.flag; allowance = x.allowance } ≡ its_head.the_head) (sym its_fields)
       (sym its_head.has_fields)
 
-  module _ (g : Format) (standard : ℕ) (known : meant g c.language standard ≡ Means its_head.the_head.standard) where
+  module _ (g : Format) (standard : ℕ) (known : meant g c.language standard ≡ Some its_head.the_head.standard) where
     head_flagged : f.greatest_flag ≤ g.greatest_flag → c.flag ≤ g.greatest_flag
     unfolding fields_with
     head_flagged flags = subst (λ (x : Fields). x.flag ≤ g.greatest_flag) (sym its_fields) (omega (arith, its_head.has_flag, flags))
@@ -126,7 +123,7 @@ module _ (file : List ℕ) (all : AllBytes file) (c : Fields) (e : fields_of old
   pub new_long : length (file_bytes format (widened_fields c)) ≡ length file + 8 * length c.tokens
   new_long = omega (arith, sound_long old_format file c e, file_long format (widened_fields c))
 
-  new_known : meant format c.language (widened_standard c.standard) ≡ Means (its_head old_format file all c e).the_head.standard
+  new_known : meant format c.language (widened_standard c.standard) ≡ Some (its_head old_format file all c e).the_head.standard
   new_known = widened_means c.language c.standard (its_meaning old_format file all c e)
 
   abbrev new_fit : FieldsFit format (widened_fields c)
@@ -166,7 +163,7 @@ module _ (file : List ℕ) (all : AllBytes file) (c : Fields) (e : fields_of for
   pub fields_returned : widened_fields (narrowed_fields c) ≡ with_standard standard_back c
   fields_returned = rw (widened_narrowed c.language c.standard (its_meaning format file all c e)) refl
 
-  pub meaning_returned : meant format c.language standard_back ≡ Means (its_head format file all c e).the_head.standard
+  pub meaning_returned : meant format c.language standard_back ≡ Some (its_head format file all c e).the_head.standard
   meaning_returned = returned_means c.language c.standard (its_meaning format file all c e)
 
   pub returned_long : length (file_bytes format (with_standard standard_back c)) ≡ length file
@@ -210,7 +207,7 @@ with_room_alike room h h' ts ts' p s = rw (same_many ts ts' s) (by_room (ltb roo
     by_room false = record { same_head = p; same_tokens = s }
 
 -- What a file comes to whose head is formed and whose records are a row.
-row_of_file : (f : Format) (file : List ℕ) (h : Head) (ts : List RowToken) (room : ℕ) → head f file ≡ Formed h → records_from f file most_tokens head_length ≡ row ts
+row_of_file : (f : Format) (file : List ℕ) (h : Head) (ts : List RowToken) (room : ℕ) → head f file ≡ Ok h → records_from f file most_tokens head_length ≡ row ts
     → file_row f file room ≡ with_room room h ts
 unfolding file_row on_pass head_read row_read
 row_of_file f file h ts room p q = rw (p, q, head_read, row_read, on_pass) refl
@@ -244,29 +241,29 @@ returned_row file all c e = same_row format file all c e (standard_back file all
 -- ---- what `narrow` answers to a sound file
 
 -- An end is over 32 bits, the old form is too long, the output is too short.
-abbrev answer_by : (over long short : Bool) (bytes : ℕ) → ConvertAnswer
-answer_by true long short n = Refused OffsetOver32Bits
-answer_by false true short n = Refused FileTooLong
-answer_by false false true n = Refused ShortBuffer
-answer_by false false false n = Converted n
+abbrev answer_by : (over long short : Bool) (bytes : ℕ) → Result ℕ TypeNameError
+answer_by true long short n = Err OffsetOver32Bits
+answer_by false true short n = Err FileTooLong
+answer_by false false true n = Err ShortBuffer
+answer_by false false false n = Ok n
 
 -- Which answer it is.
-abbrev which : ConvertAnswer → ℕ
-which (Refused e) = (refusal_of e).number
-which (Converted n) = 0
+abbrev which : Result ℕ TypeNameError → ℕ
+which (Err e) = (refusal_of e).number
+which (Ok n) = 0
 
-by_seven : (over long short : Bool) (n : ℕ) → answer_by over long short n ≡ Refused OffsetOver32Bits → over ≡ true
+by_seven : (over long short : Bool) (n : ℕ) → answer_by over long short n ≡ Err OffsetOver32Bits → over ≡ true
 by_seven true long short n e = refl
 by_seven false true short n e = let z : ◌≡◌ {A = ℕ} 1 7 = ap which e in absurd (omega (arith, z))
 by_seven false false true n e = let z : ◌≡◌ {A = ℕ} 6 7 = ap which e in absurd (omega (arith, z))
 by_seven false false false n e = let z : ◌≡◌ {A = ℕ} 0 7 = ap which e in absurd (omega (arith, z))
 
-by_one : (long short : Bool) (n : ℕ) → answer_by false long short n ≡ Refused FileTooLong → long ≡ true
+by_one : (long short : Bool) (n : ℕ) → answer_by false long short n ≡ Err FileTooLong → long ≡ true
 by_one true short n e = refl
 by_one false true n e = let z : ◌≡◌ {A = ℕ} 6 1 = ap which e in absurd (omega (arith, z))
 by_one false false n e = let z : ◌≡◌ {A = ℕ} 0 1 = ap which e in absurd (omega (arith, z))
 
-by_six : (short : Bool) (n : ℕ) → answer_by false false short n ≡ Refused ShortBuffer → short ≡ true
+by_six : (short : Bool) (n : ℕ) → answer_by false false short n ≡ Err ShortBuffer → short ≡ true
 by_six true n e = refl
 by_six false n e = let z : ◌≡◌ {A = ℕ} 0 6 = ap which e in absurd (omega (arith, z))
 

@@ -1,22 +1,20 @@
 -- The head and the row behind a sound file's fields, and what a check tells of them.
 -- Assumes nothing.
-use Rattle.std.specs.Prelude.{ℕ, ◌≡◌, Bool, true, not, List, length}
+use Rattle.convert.specs.declared.check.Sound.{Sound}
+use Rattle.std.specs.Prelude.{ℕ, ◌≡◌, Bool, true, not, List, length, Err, Ok, Result}
 use Rattle.std.proofs.Math.Path.{refl}
 use Rattle.std.proofs.Common.{sym, ap, arith}
 use Rattle.rows.specs.Format.{head_length, most_tokens}
 use Rattle.rows.specs.declared.format.Format.{Format}
 use Rattle.rows.specs.declared.answer.TypeNameError.{TypeNameError}
 use Rattle.rows.specs.declared.head.Head.{Head}
-use Rattle.rows.specs.declared.head.FileHead.{FileHead}
 use Rattle.rows.specs.Records.{RowToken, Row, refused, row, head, records_from}
 use Rattle.type_name.specs.FileRow.{Outcome, untouched, passes, on_pass, head_read, row_read}
 use Rattle.convert.specs.Fields.{Fields, fields_with, fields_of}
 use Rattle.convert.specs.Conversions.{over_32_bits}
-use Rattle.convert.specs.ConvertSays.{checked_in}
+use Rattle.convert.specs.ConvertSays.{checked_in, sound}
 use Rattle.convert.specs.Laws.Stand.{Stand, row_stands}
 use Rattle.convert.specs.Laws.Back.{HeadIs, head_is}
-use Rattle.convert.specs.declared.check.Checked.{Checked}
-use Rattle.convert.specs.declared.check.Checked.TheVariants.{Sound, Refused}
 
 -- ---- the head and the row
 
@@ -35,7 +33,7 @@ refused_not {A} {e} {a} q = let z : ◌≡◌ {A = ℕ} 0 1 = ap which q in omeg
     which (passes a) = 1
 
 module _ (f : Format) (file : List ℕ) (c : Fields) where
-  by_row : (h : Head) → head f file ≡ FileHead.Formed h → (r : Row) → records_from f file most_tokens head_length ≡ r
+  by_row : (h : Head) → head f file ≡ Ok h → (r : Row) → records_from f file most_tokens head_length ≡ r
       → on_pass (row_read r) (λ ts. passes (fields_with f file ts)) ≡ passes c → Read f file c
   unfolding on_pass row_read
   by_row h p (refused e) q s = absurd (refused_not s)
@@ -46,11 +44,11 @@ module _ (f : Format) (file : List ℕ) (c : Fields) where
       same : {x : Fields} → passes x ≡ passes c → c ≡ x
       same t = cc
 
-  by_head : (h : FileHead) → head f file ≡ h
+  by_head : (h : Result Head TypeNameError) → head f file ≡ h
       → on_pass (head_read h) (λ g. on_pass (row_read (records_from f file most_tokens head_length)) (λ ts. passes (fields_with f file ts))) ≡ passes c → Read f file c
   unfolding on_pass head_read
-  by_head (FileHead.Refused e) p s = absurd (refused_not s)
-  by_head (FileHead.Formed h) p s = by_row h p (records_from f file most_tokens head_length) refl s
+  by_head (Err e) p s = absurd (refused_not s)
+  by_head (Ok h) p s = by_row h p (records_from f file most_tokens head_length) refl s
 
   pub read_of : fields_of f file ≡ passes c → Read f file c
   unfolding fields_of
@@ -58,14 +56,14 @@ module _ (f : Format) (file : List ℕ) (c : Fields) where
 
 -- ---- what a check tells
 
-clash : {e : TypeNameError} {n : ℕ} {b : Bool} → Refused e ≡ Sound n b → ⊥
+clash : {e : TypeNameError} {n : ℕ} {b : Bool} → Err e ≡ sound n b → ⊥
 clash q = let z : ◌≡◌ {A = ℕ} 0 1 = ap which q in omega (arith, z)
   where
-    which : Checked → ℕ
-    which (Refused e) = 0
-    which (Sound n b) = 1
+    which : Result Sound TypeNameError → ℕ
+    which (Err e) = 0
+    which (Ok s) = 1
 
-pub refusal_told : (o : Outcome Fields) {e : TypeNameError} → checked_in o ≡ Refused e → o ≡ untouched e
+pub refusal_told : (o : Outcome Fields) {e : TypeNameError} → checked_in o ≡ Err e → o ≡ untouched e
 unfolding checked_in
 refusal_told (untouched d) {e} q = cc
 refusal_told (passes c) q = absurd (clash (sym q))
@@ -76,15 +74,15 @@ pub record SoundTold (o : Outcome Fields) (count : ℕ) (narrow : Bool) : Type 0
   pub is_count : count ≡ length fields.tokens
   pub is_narrow : narrow ≡ not (over_32_bits fields.tokens)
 
-abbrev count_in : Checked → ℕ
-count_in (Refused e) = 0
-count_in (Sound n b) = n
+abbrev count_in : Result Sound TypeNameError → ℕ
+count_in (Err e) = 0
+count_in (Ok s) = s.count
 
-abbrev narrow_in : Checked → Bool
-narrow_in (Refused e) = true
-narrow_in (Sound n b) = b
+abbrev narrow_in : Result Sound TypeNameError → Bool
+narrow_in (Err e) = true
+narrow_in (Ok s) = s.narrow
 
-pub sound_told : (o : Outcome Fields) {count : ℕ} {narrow : Bool} → checked_in o ≡ Sound count narrow → SoundTold o count narrow
+pub sound_told : (o : Outcome Fields) {count : ℕ} {narrow : Bool} → checked_in o ≡ sound count narrow → SoundTold o count narrow
 unfolding checked_in
 sound_told (untouched d) q = absurd (clash q)
 sound_told (passes c) q = record { fields = c; is = refl; is_count = sym (ap count_in q); is_narrow = sym (ap narrow_in q) }

@@ -1,23 +1,22 @@
 -- Token records that stand one behind the other in a file: what the row of a file says of its bytes, and back.
 -- Assumes nothing.
 use Prim.Native.Nat.{ℕ, zero, suc, ◌+◌, ◌≤◌}
-use Rattle.std.specs.Prelude.{◌≡◌, Bool, true, false, length, leb}
+use Rattle.std.specs.Prelude.{◌≡◌, Bool, true, false, length, leb, None, Option, Some}
 use Rattle.std.proofs.Math.Path.{refl, ap}
 use Rattle.std.proofs.Common.{◌∙◌, arith, leb→le}
 use mathlib.Core.List.{List, [], ◌∷◌}
 use Rattle.rows.specs.Laws.Tests.{by_if}
 use Rattle.rows.specs.declared.format.Format.{Format}
-use Rattle.rows.specs.Records.{RowToken, Tokens, malformed, tokens, before_tokens, Row, refused, row, found, kind_at, length_at, after_record, tokens_from, to_end, records_from}
+use Rattle.rows.specs.Records.{RowToken, Tokens, malformed, tokens, before_tokens, Row, refused, row, found, kind_at, length_at, after_record, tokens_from, to_end, records_from, formed}
 use Rattle.rows.specs.Laws.Tokens.{formed_fits}
 use Rattle.rows.specs.Laws.RowFacts.{token_there}
 use Rattle.rows.specs.declared.token.TokenRecord.{TokenRecord}
-use Rattle.rows.specs.declared.token.TokenRecord.TheVariants.{Formed, Malformed}
 
 module _ (f : Format) (file : List ℕ) where
   -- A token's record stands at a byte offset.
   pub record StandsAt (at : ℕ) (t : RowToken) : Type 0 where
     pub is : t ≡ token_there f file at (kind_at f file at)
-    pub formed : found f file at ≡ Formed (kind_at f file at) (length_at f file at)
+    pub formed : found f file at ≡ formed (kind_at f file at) (length_at f file at)
 
   -- The records of these tokens stand from a byte offset to the file's end.
   abbrev pub Stand : (at : ℕ) → List RowToken → Type 0
@@ -48,7 +47,7 @@ module _ (f : Format) (file : List ℕ) where
       let there : at ≡ next = ap next_in e in
       rw (← none) (omega (arith, p, q, there))
 
-  module _ (at k n : ℕ) (e : found f file at ≡ Formed k n) where
+  module _ (at k n : ℕ) (e : found f file at ≡ formed k n) where
     there : StandsAt at (token_there f file at k)
     there =
         let fit = formed_fits f file at k n e in
@@ -64,13 +63,13 @@ module _ (f : Format) (file : List ℕ) where
         let fit = formed_fits f file at k n e in
         rw (← same) (there, rw (← fit.is_length) (ih us (rw ends_there refl)))
 
-  stand_after : (most at : ℕ) {ts : List RowToken} {next : ℕ} (t : TokenRecord) → found f file at ≡ t
+  stand_after : (most at : ℕ) {ts : List RowToken} {next : ℕ} (t : Option TokenRecord) → found f file at ≡ t
       → ((at' : ℕ) (us : List RowToken) → at' ≤ length file → tokens_from f file most at' ≡ tokens us next → Stand at' us)
       → after_record f file at t (λ n. tokens_from f file most n) ≡ tokens ts next → Stand at ts
   unfolding after_record
-  stand_after most at Malformed e ih q = absurd (no_tokens q)
-  stand_after most at (Formed k n) e ih q =
-      stand_before at k n e (tokens_from f file most (at + n)) (λ us r. ih (at + n) us (formed_fits f file at k n e).inside r) q
+  stand_after most at None e ih q = absurd (no_tokens q)
+  stand_after most at (Some t) e ih q =
+      stand_before at t.kind t.length e (tokens_from f file most (at + t.length)) (λ us r. ih (at + t.length) us (formed_fits f file at t.kind t.length e).inside r) q
 
   by_end : (b : Bool) (at : ℕ) {ts : List RowToken} {next : ℕ} (r : Tokens) → at ≤ length file → length file ≤ next → (r ≡ tokens ts next → Stand at ts)
       → elim b as (λ _. Tokens) [ true ↦ tokens [] at | false ↦ r ] ≡ tokens ts next → Stand at ts

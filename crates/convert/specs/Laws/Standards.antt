@@ -1,6 +1,7 @@
 -- What the numbers that conversions write for a standard mean.
 -- Assumes nothing.
-use Rattle.std.specs.Prelude.{ℕ, ◌+◌, ◌≤◌, ◌<◌, ◌≡◌, Bool, true, false, eqb, ltb, if◌then◌else◌}
+use Rattle.std.specs.Option.{unwrap_or}
+use Rattle.std.specs.Prelude.{ℕ, ◌+◌, ◌≤◌, ◌<◌, ◌≡◌, Bool, true, false, eqb, ltb, if◌then◌else◌, None, Option, Some}
 use Rattle.std.proofs.Math.Path.{refl, sym}
 use Rattle.std.proofs.Common.{ap, ◌∙◌, arith}
 use borrow.Author.Tests.{lt-ltb, le-ltb, ne_eqb, ltb-true, ltb-false, eqb-true, eqb-false}
@@ -8,9 +9,13 @@ use Rattle.rows.specs.Languages.{C, Cpp, Fortran, C23, Cpp23, Fortran2023}
 use Rattle.rows.specs.Format.{format, old_format, declared, stands_for, standard_254, standard_255, meant}
 use Rattle.rows.specs.Laws.Tests.{by_if}
 use Rattle.rows.specs.declared.format.Format.{Format}
-use Rattle.rows.specs.declared.head.Meaning.{Meaning}
-use Rattle.rows.specs.declared.head.Meaning.TheVariants.{Means, Unknown}
 use Rattle.convert.specs.Standards.{widened_standard, own_number, narrowed_standard, returned_standard}
+
+-- An unknown standard was refused before.
+pub own_or : (meaning : Option ℕ) → unwrap_or meaning standard_255 ≡ own_number meaning
+unfolding own_number
+own_or (Some standard) = refl
+own_or None = refl
 
 -- ---- a standard's number is one of the language's own, 255, 254, or none
 
@@ -39,7 +44,7 @@ number language standard =
     by false p false q false r = other (ltb-false standard (declared language) p) (eqb-false standard standard_255 q) (eqb-false standard standard_254 r)
 
 module _ (f : Format) (language : ℕ) where
-  pub means_own : (standard : ℕ) → standard < declared language → meant f language standard ≡ Means standard
+  pub means_own : (standard : ℕ) → standard < declared language → meant f language standard ≡ Some standard
   unfolding meant
   means_own standard p = rw (lt-ltb standard (declared language) p) refl
 
@@ -51,7 +56,7 @@ module _ (f : Format) (language : ℕ) where
   unfolding meant
   means_254 = rw (le-ltb standard_254 (declared language) (omega (arith, few_declared language))) refl
 
-  pub means_none : (standard : ℕ) → declared language ≤ standard → (standard ≡ standard_255 → ⊥) → (standard ≡ standard_254 → ⊥) → meant f language standard ≡ Unknown
+  pub means_none : (standard : ℕ) → declared language ≤ standard → (standard ≡ standard_255 → ⊥) → (standard ≡ standard_254 → ⊥) → meant f language standard ≡ None
   unfolding meant
   means_none standard p q r = rw (le-ltb standard (declared language) p, ne_eqb standard standard_255 q, ne_eqb standard standard_254 r) refl
 
@@ -59,12 +64,12 @@ module _ (f : Format) (language : ℕ) where
 pub archives : (language : ℕ) → meant format language standard_254 ≡ meant old_format language standard_255
 archives language = means_254 format language ∙ sym (means_255 old_format language)
 
-pub unknown_not : {standard : ℕ} → Unknown ≡ Means standard → ⊥
+pub unknown_not : {standard : ℕ} → None ≡ Some standard → ⊥
 unknown_not q = let z : ◌≡◌ {A = ℕ} 0 1 = ap which q in omega (arith, z)
   where
-    which : Meaning → ℕ
-    which Unknown = 0
-    which (Means s) = 1
+    which : Option ℕ → ℕ
+    which None = 0
+    which (Some s) = 1
 
 -- ---- what is written
 
@@ -84,25 +89,25 @@ returns_own : (language standard : ℕ) → standard < declared language → ret
 unfolding returned_standard
 returns_own language standard p = rw (ne_eqb standard standard_255 (own_is_not language standard standard_255 (omega arith) p)) refl
 
-abbrev pub standard_in : Meaning → ℕ
-standard_in Unknown = 0
-standard_in (Means standard) = standard
+abbrev pub standard_in : Option ℕ → ℕ
+standard_in None = 0
+standard_in (Some standard) = standard
 
 -- What 255 means is declared.
-by_language : (a b c : Bool) {standard : ℕ} → (if a then Means C23 else if b then Means Cpp23 else if c then Means Fortran2023 else Unknown) ≡ Means standard
+by_language : (a b c : Bool) {standard : ℕ} → (if a then Some C23 else if b then Some Cpp23 else if c then Some Fortran2023 else None) ≡ Some standard
     → standard < (if a then C23 + 1 else if b then Cpp23 + 1 else if c then Fortran2023 + 1 else 0)
 by_language true b c {standard} q = let z : C23 ≡ standard = ap standard_in q in omega (arith, z)
 by_language false true c {standard} q = let z : Cpp23 ≡ standard = ap standard_in q in omega (arith, z)
 by_language false false true {standard} q = let z : Fortran2023 ≡ standard = ap standard_in q in omega (arith, z)
 by_language false false false q = absurd (unknown_not q)
 
-newer_declared : (language : ℕ) {standard : ℕ} → meant format language standard_255 ≡ Means standard → standard < declared language
+newer_declared : (language : ℕ) {standard : ℕ} → meant format language standard_255 ≡ Some standard → standard < declared language
 unfolding stands_for declared
 newer_declared language e = by_language (eqb language C) (eqb language Cpp) (eqb language Fortran) (sym (means_255 format language) ∙ e)
 
 -- ---- of a standard that an old file may have
 
-module _ (language standard : ℕ) {s : ℕ} (e : meant old_format language standard ≡ Means s) where
+module _ (language standard : ℕ) {s : ℕ} (e : meant old_format language standard ≡ Some s) where
   not_254 : {A : Type 0} → standard ≡ standard_254 → A
   unfolding stands_for
   not_254 q = absurd (unknown_not (sym (means_254 old_format language) ∙ (rw q at e)))
@@ -111,11 +116,11 @@ module _ (language standard : ℕ) {s : ℕ} (e : meant old_format language stan
   not_other p q r = absurd (unknown_not (sym (means_none old_format language standard p q r) ∙ e))
 
   -- `widen` writes a number that means the same,
-  pub widened_means : meant format language (widened_standard standard) ≡ Means s
+  pub widened_means : meant format language (widened_standard standard) ≡ Some s
   unfolding widened_standard
   widened_means = by (number language standard)
     where
-      by : Number language standard → meant format language (widened_standard standard) ≡ Means s
+      by : Number language standard → meant format language (widened_standard standard) ≡ Some s
       by (own p) = rw (widens_own language standard p) (means_own format language standard p ∙ sym (means_own old_format language standard p) ∙ e)
       by (is_255 q) = rw q (archives language ∙ (rw q at e))
       by (is_254 q) = not_254 q
@@ -134,11 +139,11 @@ module _ (language standard : ℕ) {s : ℕ} (e : meant old_format language stan
 
 -- ---- of a standard that a new file may have
 
-module _ (language standard : ℕ) {s : ℕ} (e : meant format language standard ≡ Means s) where
+module _ (language standard : ℕ) {s : ℕ} (e : meant format language standard ≡ Some s) where
   none_other : {A : Type 0} → declared language ≤ standard → (standard ≡ standard_255 → ⊥) → (standard ≡ standard_254 → ⊥) → A
   none_other p q r = absurd (unknown_not (sym (means_none format language standard p q r) ∙ e))
 
-  means_newer : standard ≡ standard_255 → meant format language standard_255 ≡ Means s
+  means_newer : standard ≡ standard_255 → meant format language standard_255 ≡ Some s
   means_newer q = rw q at e
 
   -- 255 is its own number then.
@@ -151,11 +156,11 @@ module _ (language standard : ℕ) {s : ℕ} (e : meant format language standard
   returns_255 q = rw (q, means_newer q, own_number) refl
 
   -- `narrow` writes a number that means the same,
-  pub narrowed_means : meant old_format language (narrowed_standard language standard) ≡ Means s
+  pub narrowed_means : meant old_format language (narrowed_standard language standard) ≡ Some s
   unfolding narrowed_standard
   narrowed_means = by (number language standard)
     where
-      by : Number language standard → meant old_format language (narrowed_standard language standard) ≡ Means s
+      by : Number language standard → meant old_format language (narrowed_standard language standard) ≡ Some s
       by (own p) = rw (narrows_own language standard p) (means_own old_format language standard p ∙ sym (means_own format language standard p) ∙ e)
       by (is_255 q) = rw (narrows_255 q) (means_own old_format language s (newer_declared language (means_newer q)))
       by (is_254 q) = rw q (sym (archives language) ∙ (rw q at e))
@@ -173,11 +178,11 @@ module _ (language standard : ℕ) {s : ℕ} (e : meant format language standard
       by (other p q r) = none_other p q r
 
   -- which means the same.
-  pub returned_means : meant format language (returned_standard language standard) ≡ Means s
+  pub returned_means : meant format language (returned_standard language standard) ≡ Some s
   unfolding returned_standard
   returned_means = by (number language standard)
     where
-      by : Number language standard → meant format language (returned_standard language standard) ≡ Means s
+      by : Number language standard → meant format language (returned_standard language standard) ≡ Some s
       by (own p) = rw (returns_own language standard p) e
       by (is_255 q) = rw (returns_255 q) (means_own format language s (newer_declared language (means_newer q)))
       by (is_254 q) = rw q (rw q at e)

@@ -1,6 +1,6 @@
 -- The loop that writes a file's records in another format.
 -- Assumes nothing.
-use Rattle.std.specs.Prelude.{ℕ, ◌+◌, ◌≤◌, ◌<◌, ◌≡◌, get_or}
+use Rattle.std.specs.Prelude.{ℕ, ◌+◌, ◌≤◌, ◌<◌, ◌≡◌, get_or, Err, Ok}
 use Rattle.std.proofs.Math.Path.{refl}
 use Rattle.std.proofs.Common.{sym, ap, ◌∙◌, length-append, lt-ltb, le-ltb}
 use mathlib.Core.List.{List, [], ◌∷◌, ◌++◌, map, append_assoc, append-nil}
@@ -12,8 +12,10 @@ use Rattle.rows.specs.declared.answer.TypeNameError.TheVariants.{ShortBuffer}
 use Rattle.rows.specs.Records.{RowToken, little_endian, kind_at, length_at}
 use Rattle.rows.specs.Laws.Tokens.{formed_fits}
 use Rattle.rows.specs.Laws.RowFacts.{token_there}
+use Rattle.text.specs.declared.Text.{Text}
 use Rattle.text.specs.Text.{Appended, little_endian_bytes}
-use Rattle.text.specs.Laws.Appending.{appended_none, appended_then, appended_as, appended_whole}
+use Rattle.text.specs.Puts.{Puts}
+use Rattle.text.specs.Laws.Appending.{appended_whole, puts_none, puts_then, puts_as}
 use Rattle.type_name.specs.FileRow.{passes}
 use Rattle.convert.specs.Fields.{Fields, token_fields, fields_with, fields_of, token_bytes, records_bytes, head_bytes, file_bytes}
 use Rattle.convert.specs.Conversions.{with_output, convert_answer, output_in}
@@ -21,35 +23,32 @@ use Rattle.convert.specs.ConvertSays.{RecordReady, RecordsReady, FileReady, IsSo
 use Rattle.convert.specs.Laws.Stand.{Stand, StandsAt}
 use Rattle.convert.specs.Laws.OneRecord.{token_long}
 use Rattle.convert.specs.Laws.Reads.{read_of}
-use Rattle.convert.specs.declared.entry.ConvertAnswer.TheVariants.{Converted, Refused}
 
-module _ (from to : Format) (file output₀ : List ℕ) (begin : ℕ) where
+module _ (from to : Format) (file : List ℕ) (output₀ : Text) where
   -- What is to be written.
   abbrev all : List ℕ
   all = records_in to (fields_of from file)
 
   -- `left`: the tokens whose records stand from byte offset `at` on.
-  pub record WriteLoop (at out : ℕ) (output : List ℕ) : Type 0 where
+  pub record WriteLoop (at : ℕ) (output : Text) : Type 0 where
     pub left : List RowToken
     pub stand : Stand from file at left
     pub front : List ℕ
-    pub so_far : Appended output₀ begin front out output
-    pub long : length output ≡ length output₀
+    pub so_far : Puts output₀ front output
     pub whole : front ++ records_bytes to (map (token_fields from file) left) ≡ all
 
   all_of : (c : Fields) (ts : List RowToken) → fields_of from file ≡ passes c → c ≡ fields_with from file ts → [] ++ records_bytes to (map (token_fields from file) ts) ≡ all
   unfolding records_in fields_with
   all_of c ts e q = rw (e, q, records_in) refl
 
-  pub write_begins : IsSound from file → WriteLoop head_length begin output₀
+  pub write_begins : IsSound from file → WriteLoop head_length output₀
   write_begins sound =
       let read = read_of from file sound.fields sound.is in
       record {
         left = read.row_tokens;
         stand = read.stand;
         front = [];
-        so_far = appended_none output₀ begin;
-        long = refl;
+        so_far = puts_none output₀;
         whole = all_of sound.fields read.row_tokens sound.is read.fields_are;
       }
 
@@ -64,7 +63,7 @@ module _ (from to : Format) (file output₀ : List ℕ) (begin : ℕ) where
   next at [] s p = absurd (omega (arith, s))
   next at (t ∷ ts) s p = record { rest = ts; stands = s.1; there = rw (← s.0.is) s.0; are = rw (← s.0.is) refl }
 
-  module _ {at out : ℕ} {output : List ℕ} (l : WriteLoop at out output) where
+  module _ {at : ℕ} {output : Text} (l : WriteLoop at output) where
     pub record_inside : at < length file → at + length_at from file at ≤ length file
     record_inside p = (formed_fits from file at (kind_at from file at) (length_at from file at) (next at l.left l.stand p).there.formed).inside
 
@@ -78,24 +77,22 @@ module _ (from to : Format) (file output₀ : List ℕ) (begin : ℕ) where
         append_assoc l.front (token_bytes to (fields_there from file at)) (records_bytes to (map (token_fields from file) n.rest))
         ∙ (rw n.are at l.whole)
 
-    pub record_ready : at < length file → RecordsReady from to file output₀ begin → RecordReady from to file at output out
+    pub record_ready : at < length file → RecordsReady from to file output₀.bytes.now output₀.end → RecordReady from to file at output.bytes.now output.end
     record_ready p ready =
         let n = next at l.left l.stand p in
         let size = token_long to (fields_there from file at) in
         let sum : length l.front + length (token_bytes to (fields_there from file at)) + length (records_bytes to (map (token_fields from file) n.rest)) ≡ length all
         = rw (← length-append l.front (token_bytes to (fields_there from file at)), ← length-append (l.front ++ token_bytes to (fields_there from file at)) (records_bytes to (map (token_fields from file) n.rest))) (ap length (split p)) in
-        record { formed = n.there.formed; room = omega (arith, l.so_far.counts, l.long, ready.room, size, sum) }
+        record { formed = n.there.formed; room = omega (arith, l.so_far.appended.counts, l.so_far.as_long, ready.room, size, sum) }
 
-    pub write_on : at < length file → {r : ℕ} {output' : List ℕ} → length output' ≡ length output → Appended output out (token_bytes to (fields_there from file at)) r output'
-        → WriteLoop (at + length_at from file at) r output'
-    write_on p kept put =
+    pub write_on : at < length file → {output' : Text} → Puts output (token_bytes to (fields_there from file at)) output' → WriteLoop (at + length_at from file at) output'
+    write_on p put =
         let n = next at l.left l.stand p in
         record {
           left = n.rest;
           stand = n.stands;
           front = l.front ++ token_bytes to (fields_there from file at);
-          so_far = appended_then l.so_far put;
-          long = kept ∙ l.long;
+          so_far = puts_then l.so_far put;
           whole = split p;
         }
 
@@ -105,9 +102,9 @@ module _ (from to : Format) (file output₀ : List ℕ) (begin : ℕ) where
         let fit = formed_fits from file at (kind_at from file at) (length_at from file at) s.0.formed in
         absurd (omega (arith, fit.inside, fit.long, p))
 
-    pub write_ends : length file ≤ at → Appended output₀ begin all out output
+    pub write_ends : length file ≤ at → Puts output₀ all output
     unfolding records_bytes
-    write_ends p = appended_as (sym (append-nil l.front) ∙ (rw (at_end l.left l.stand p) at l.whole)) l.so_far
+    write_ends p = puts_as (sym (append-nil l.front) ∙ (rw (at_end l.left l.stand p) at l.whole)) l.so_far
 
 -- ---- the whole file
 
@@ -136,27 +133,27 @@ module _ (from to : Format) (standard : ℕ) (file output₀ : List ℕ) where
   unfolding head_bytes little_endian_bytes
   head_long = refl
 
-  pub records_ready : {begin : ℕ} {output : List ℕ} → FileReady from to standard file output₀ → length output ≡ length output₀ → Appended output₀ 0 its_head begin output
-      → RecordsReady from to file output begin
-  records_ready ready kept put = record {
-    sound = ready.sound;
-    room = omega (arith, kept, put.counts, head_long, file_long ready.sound.fields ready.sound.is, ready.room);
-  }
+  pub records_ready : {empty headed : Text} → (empty.bytes.now ≡ output₀) × (empty.end ≡ 0) → FileReady from to standard file output₀ → Puts empty its_head headed
+      → RecordsReady from to file headed.bytes.now headed.end
+  records_ready {empty} {headed} e ready put =
+      let room₀ : length whole_file ≤ length empty.bytes.now = rw e.0 ready.room in record {
+        sound = ready.sound;
+        room = omega (arith, e.1, put.as_long, put.appended.counts, head_long, file_long ready.sound.fields ready.sound.is, room₀);
+      }
 
   head_then : (c : Fields) (ts : List RowToken) → fields_of from file ≡ passes c → c ≡ fields_with from file ts → its_head ++ records_in to (fields_of from file) ≡ whole_file
   unfolding bytes_in records_in file_bytes fields_with
   head_then c ts e q = rw (e, q, bytes_in, records_in) refl
 
-  pub file_put : {begin r : ℕ} {output output' : List ℕ} → IsSound from file → Appended output₀ 0 its_head begin output → Appended output begin (records_in to (fields_of from file)) r output'
-      → Appended output₀ 0 whole_file r output'
+  pub file_put : {empty headed full : Text} → IsSound from file → Puts empty its_head headed → Puts headed (records_in to (fields_of from file)) full → Puts empty whole_file full
   file_put sound head rest =
       let read = read_of from file sound.fields sound.is in
-      appended_as (head_then sound.fields read.row_tokens sound.is read.fields_are) (appended_then head rest)
+      puts_as (head_then sound.fields read.row_tokens sound.is read.fields_are) (puts_then head rest)
 
   -- ---- the output
 
   module _ (short : length output₀ < length whole_file) where
-    pub short_answer : Refused ShortBuffer ≡ convert_answer (with_output (length output₀) whole_file)
+    pub short_answer : Err ShortBuffer ≡ convert_answer (with_output (length output₀) whole_file)
     unfolding convert_answer with_output
     short_answer = rw (lt-ltb (length output₀) (length whole_file) short, convert_answer) refl
 
@@ -165,9 +162,9 @@ module _ (from to : Format) (standard : ℕ) (file output₀ : List ℕ) where
     short_output = rw (lt-ltb (length output₀) (length whole_file) short, output_in) refl
 
   module _ {r : ℕ} {output : List ℕ} (room : length whole_file ≤ length output₀) (put : Appended output₀ 0 whole_file r output) where
-    pub written_answer : Converted r ≡ convert_answer (with_output (length output₀) whole_file)
+    pub written_answer : Ok r ≡ convert_answer (with_output (length output₀) whole_file)
     unfolding convert_answer with_output
-    written_answer = rw (le-ltb (length output₀) (length whole_file) room, convert_answer) (ap Converted (put.counts ∙ omega arith))
+    written_answer = rw (le-ltb (length output₀) (length whole_file) room, convert_answer) (ap Ok (put.counts ∙ omega arith))
 
     pub written_output : output ≡ output_in output₀ (with_output (length output₀) whole_file)
     unfolding output_in with_output

@@ -1,7 +1,7 @@
 -- A file that is written from fields is read back as those fields.
 -- Assumes nothing.
 use Prim.Native.Nat.{ℕ, zero, suc, ◌+◌, ◌-◌, ◌^◌, ◌≤◌, ◌<◌}
-use Rattle.std.specs.Prelude.{◌≡◌, true, drop}
+use Rattle.std.specs.Prelude.{◌≡◌, true, drop, Ok, Some}
 use Rattle.std.proofs.Math.Path.{refl, sym, ap}
 use Rattle.std.proofs.Common.{◌∙◌, length-drop}
 use mathlib.Core.List.{List, [], ◌∷◌, map}
@@ -11,8 +11,6 @@ use Rattle.std.proofs.Math.ListN.{length}
 use Rattle.rows.specs.Format.{short_bytes, allowance_bytes, head_length, at_kind, at_allowance, token_length, most_tokens, meant}
 use Rattle.rows.specs.declared.format.Format.{Format}
 use Rattle.rows.specs.declared.head.Head.{Head}
-use Rattle.rows.specs.declared.head.Meaning.TheVariants.{Means}
-use Rattle.rows.specs.declared.head.FileHead.TheVariants.{Formed}
 use Rattle.rows.specs.Records.{byte_values, little_endian, RowToken, tokens, before_tokens, row, head, head_formed, head_with, kind_at, length_at, tokens_from, to_end, records_from}
 use Rattle.rows.specs.Laws.Tokens.{formed_fits}
 use Rattle.rows.specs.Laws.RowLoop.{ends, begins_token}
@@ -86,7 +84,7 @@ module _ (f : Format) (file : List ℕ) where
 -- Fields whose file in a format is sound.
 pub record FieldsFit (f : Format) (c : Fields) : Type 0 where
   pub meaning : ℕ
-  pub known : meant f c.language c.standard ≡ Means meaning
+  pub known : meant f c.language c.standard ≡ Some meaning
   pub flagged : c.flag ≤ f.greatest_flag
   pub small : c.allowance < byte_values ^ allowance_bytes
   pub all_fit : AllFit f c.tokens
@@ -113,7 +111,7 @@ module _ (f : Format) (c : Fields) (kind_fits : f.head_kind < byte_values ^ shor
   unfolding head_formed file_bytes little_endian little_endian_bytes
   is_formed = rw (is_kind, le-leb head_length (length file) (omega arith), eq-eqb f.head_kind f.head_kind refl, le-leb c.flag f.greatest_flag fit.flagged) refl
 
-  pub written_head : head f file ≡ Formed head_meant
+  pub written_head : head f file ≡ Ok head_meant
   unfolding head head_with file_bytes little_endian_bytes
   written_head = rw (le-ltb f.file_limit (length file) fit.short, is_formed, fit.known, is_allowance, head_with) refl
 

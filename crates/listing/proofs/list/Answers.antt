@@ -15,7 +15,7 @@ put_listing-requires c = omega (arith, length-replicate {A = ℕ} tree_length 0)
 pub returns-then-is_too_long : goal.returns-then-is_too_long
 returns-then-is_too_long c = let end = c.put_listing.result in
     let list = c.put_listing.new.text in
-    let within : end ≤ length list = omega (arith, c.put_listing.ensures.within, c.put_listing.auto.text) in record { counted = (within, sym (length-take-le end list within)); listed = appended_as (too_long (take c.args.size c.args.input.now) (omega (arith, length-take-le c.args.size c.args.input.now (omega arith), c.if-is_too_long.true))) c.put_listing.ensures.appended }
+    let within : end ≤ length list = omega (arith, c.put_listing.ensures.within, c.put_listing.auto.text) in record { counted = (within, sym (length-take-le end list within)); listed = appended_as (too_long (take c.args.size c.args.input.now) (omega (arith, length-take-le c.args.size c.args.input.now (omega arith), c.if-is_too_long.true))) (rw c.from-too_long.ensures at c.put_listing.ensures.appended) }
 
 pub slice_bounds-parse_type_name-end : goal.slice_bounds-parse_type_name-end
 slice_bounds-parse_type_name-end c = sym (length-take-le _ _ (omega arith))

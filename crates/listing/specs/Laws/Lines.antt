@@ -1,16 +1,18 @@
 -- How the lines of a listing come together.
 -- Assumes nothing.
+use Rattle.rows.specs.Answer.{accepted_with, refused_with}
 use Rattle.std.specs.Prelude.{ℕ, zero, suc, ◌+◌, ◌*◌, ◌/◌, ◌≤◌, ◌<◌, ◌≡◌, Bool, true, false, List, [], ◌∷◌, ◌++◌, ◌⊎◌, length, eqb, ltb}
 use Rattle.std.proofs.Math.Path.{refl, ap}
 use Rattle.std.proofs.Common.{sym, ◌∙◌, ⊎_elim, arith, add-one, length-append, ne_eqb}
 use Rattle.std.proofs.Math.ListN.{get_or-eq_default}
 use Rattle.rows.specs.Words.{bytes}
-use Rattle.text.specs.Text.{Appended, ended}
-use Rattle.text.specs.Laws.Appending.{appended_as, appended_then, appended_none, ended_long}
+use Rattle.text.specs.declared.Text.{Text}
+use Rattle.text.specs.Text.{ended}
+use Rattle.text.specs.Puts.{Puts}
+use Rattle.text.specs.Laws.Appending.{puts_as, puts_then, puts_none, ended_long}
 use Rattle.rows.specs.Refusals.{refusal_of}
 use Rattle.rows.specs.declared.answer.Refusal.{Refusal}
 use Rattle.rows.specs.declared.answer.TypeNameError.{TypeNameError}
-use Rattle.rows.specs.declared.answer.Answer.TheVariants.{Accepted, Refused}
 use Rattle.reader.specs.Nodes.{number, g_node, b_node, l_node, node_width, kind_of, token_of, extent_of}
 use Rattle.listing.specs.Listing.{level, levels_of, stands_below, makes_level, letter, node_line, node_lines, accepted_line, refused_line, listed, listing, space, newline, accepted_line_length, refused_line_length, node_line_length, listing_length}
 
@@ -91,30 +93,29 @@ unfolding node_lines
 nodes_long tree zero = omega arith
 nodes_long tree (suc n) = simp length-append (omega (arith, nodes_long tree n, node_long tree n))
 
--- The loop over the nodes: the lines of the first `node` stand behind `at`.
-pub record Listing (entry : List ℕ) (at : ℕ) (tree : List ℕ) (nodes : ℕ) (text : List ℕ) (end node : ℕ) : Type 0 where
+-- The loop over the nodes: the lines of the first `node` are put.
+pub record Listing (entry : Text) (tree : List ℕ) (nodes : ℕ) (text : Text) (node : ℕ) : Type 0 where
   pub within : node ≤ nodes
-  pub long : length text ≡ length entry
-  pub so_far : Appended entry at (node_lines tree node) end text
+  pub so_far : Puts entry (node_lines tree node) text
 
-module _ {entry tree : List ℕ} {at nodes : ℕ} where
-  pub listing_start : Listing entry at tree nodes entry at 0
+module _ {entry : Text} {tree : List ℕ} {nodes : ℕ} where
+  pub listing_start : Listing entry tree nodes entry 0
   unfolding node_lines
-  listing_start = record { within = omega arith; long = refl; so_far = appended_none entry at }
+  listing_start = record { within = omega arith; so_far = puts_none entry }
 
   -- Where the next line begins.
-  pub listing_room : {text : List ℕ} {end node : ℕ} → Listing entry at tree nodes text end node → node < nodes → at + node_line_length * nodes ≤ length entry → end + node_line_length ≤ length text
-  listing_room {text} {end} {node} l less room = omega (arith, l.so_far.counts, l.long, nodes_long tree node)
+  pub listing_room : {text : Text} {node : ℕ} → Listing entry tree nodes text node → node < nodes → entry.end + node_line_length * nodes ≤ length entry.bytes.now
+      → text.end + node_line_length ≤ length text.bytes.now
+  listing_room {text} {node} l less room = omega (arith, l.so_far.appended.counts, l.so_far.as_long, nodes_long tree node)
 
-  pub listing_on : {text next : List ℕ} {end end' node : ℕ} → Listing entry at tree nodes text end node → node < nodes → Appended text end (node_line tree node) end' next → length next ≡ length text
-      → Listing entry at tree nodes next end' (node + 1)
+  pub listing_on : {text next : Text} {node : ℕ} → Listing entry tree nodes text node → node < nodes → Puts text (node_line tree node) next → Listing entry tree nodes next (node + 1)
   unfolding node_lines
-  listing_on {text} {next} {end} {end'} {node} l less line kept = rw (add-one node) (record { within = omega arith; long = kept ∙ l.long; so_far = appended_then l.so_far line })
+  listing_on {text} {next} {node} l less line = rw (add-one node) (record { within = omega arith; so_far = puts_then l.so_far line })
 
-  pub listing_end : {text : List ℕ} {end node : ℕ} → Listing entry at tree nodes text end node → nodes ≤ node → Appended entry at (node_lines tree nodes) end text
-  listing_end {text} {end} {node} l past =
+  pub listing_end : {text : Text} {node : ℕ} → Listing entry tree nodes text node → nodes ≤ node → Puts entry (node_lines tree nodes) text
+  listing_end {text} {node} l past =
       let whole : node ≡ nodes = omega (arith, l.within, past) in
-      appended_as (ap (node_lines tree) whole) l.so_far
+      puts_as (ap (node_lines tree) whole) l.so_far
 
 pub accepted_long : (nodes steps : ℕ) → length (accepted_line nodes steps) ≤ accepted_line_length
 unfolding accepted_line
@@ -131,30 +132,30 @@ unfolding listed
 listed_fits nodes tree = omega arith
 
 -- Behind the first line there is room for the lines of the nodes listed.
-pub nodes_fit : {entry text : List ℕ} {end : ℕ} (tree : List ℕ) (nodes steps n : ℕ) → listing_length (length tree) ≤ length entry → n ≡ listed nodes tree
-    → Appended entry 0 (accepted_line nodes steps) end text → length text ≡ length entry → (end + node_line_length * n ≤ length text) × (node_width * n ≤ length tree)
-nodes_fit tree nodes steps n room found first kept =
+pub nodes_fit : {entry text : Text} (tree : List ℕ) (nodes steps n : ℕ) → entry.end + listing_length (length tree) ≤ length entry.bytes.now → n ≡ listed nodes tree
+    → Puts entry (accepted_line nodes steps) text → (text.end + node_line_length * n ≤ length text.bytes.now) × (node_width * n ≤ length tree)
+nodes_fit tree nodes steps n room found first =
     let fits = listed_fits nodes tree in
-    (omega (arith, first.counts, accepted_long nodes steps, found, fits), omega (arith, found, fits))
+    (omega (arith, first.appended.counts, first.as_long, accepted_long nodes steps, found, fits), omega (arith, found, fits))
 
--- The text is in front of the buffer, and within it.
-abbrev pub Listed : (entry added : List ℕ) (r : ℕ) (exit : List ℕ) → Type 0
-Listed entry added r exit = Appended entry 0 added r exit × (r ≤ length entry)
+-- The text is put, and within the buffer.
+abbrev pub Listed : (entry : Text) (added : List ℕ) (exit : Text) → Type 0
+Listed entry added exit = Puts entry added exit × (exit.end ≤ length entry.bytes.now)
 
-module _ {entry exit : List ℕ} {r : ℕ} where
+module _ {entry exit : Text} where
   -- Here `refusal` is the error's, as the code found it.
-  pub listing_refused : (tree : List ℕ) (e : TypeNameError) (refusal : Refusal) (steps : ℕ) → listing_length (length tree) ≤ length entry → refusal ≡ refusal_of e
-      → Appended entry 0 (refused_line refusal steps) r exit → Listed entry (listing (Refused e steps) tree) r exit
+  pub listing_refused : (tree : List ℕ) (e : TypeNameError) (refusal : Refusal) (steps : ℕ) → entry.end + listing_length (length tree) ≤ length entry.bytes.now → refusal ≡ refusal_of e
+      → Puts entry (refused_line refusal steps) exit → Listed entry (listing (refused_with e steps) tree) exit
   unfolding listing
   listing_refused tree e refusal steps room found line =
-      (appended_as (ap (λ (f : Refusal). refused_line f steps) found) line, omega (arith, line.counts, refused_long refusal steps))
+      (puts_as (ap (λ (f : Refusal). refused_line f steps) found) line, omega (arith, line.appended.counts, refused_long refusal steps))
 
   -- Here `n` is how many nodes are listed.
-  pub listing_accepted : {text : List ℕ} {end : ℕ} (tree : List ℕ) (nodes steps n : ℕ) → listing_length (length tree) ≤ length entry → n ≡ listed nodes tree
-      → Appended entry 0 (accepted_line nodes steps) end text → Appended text end (node_lines tree n) r exit → Listed entry (listing (Accepted nodes steps) tree) r exit
+  pub listing_accepted : {text : Text} (tree : List ℕ) (nodes steps n : ℕ) → entry.end + listing_length (length tree) ≤ length entry.bytes.now → n ≡ listed nodes tree
+      → Puts entry (accepted_line nodes steps) text → Puts text (node_lines tree n) exit → Listed entry (listing (accepted_with nodes steps) tree) exit
   unfolding listing
   listing_accepted tree nodes steps n room found first lines =
       let fits = listed_fits nodes tree in (
-        appended_as (ap (λ (k : ℕ). accepted_line nodes steps ++ node_lines tree k) found) (appended_then first lines),
-        omega (arith, first.counts, lines.counts, accepted_long nodes steps, nodes_long tree n, found, fits),
+        puts_as (ap (λ (k : ℕ). accepted_line nodes steps ++ node_lines tree k) found) (puts_then first lines),
+        omega (arith, first.appended.counts, lines.appended.counts, accepted_long nodes steps, nodes_long tree n, found, fits),
       )

@@ -1,16 +1,15 @@
 -- The listing of a file from what the entry says.
 -- Assumes nothing.
+use Rattle.rows.specs.Answer.{refused_with, Answer}
 use Rattle.std.specs.Prelude.{ℕ, ◌≤◌, ◌<◌, ◌≡◌, refl, List, length, replicate}
 use Rattle.std.proofs.Common.{ap, ◌∙◌, lt-ltb, le-ltb}
 use Rattle.std.proofs.lemmas.List.{length-replicate}
-use Rattle.rows.specs.declared.answer.Answer.{Answer}
-use Rattle.rows.specs.declared.answer.Answer.TheVariants.{Refused}
 use Rattle.rows.specs.declared.answer.TypeNameError.TheVariants.{FileTooLong}
 use Rattle.type_name.specs.Promises.{Answered, Buffered}
 use Rattle.listing.specs.Listing.{listing}
 use Rattle.listing.specs.FileListing.{file_listing, listing_limit, tree_length}
 
-pub too_long : (file : List ℕ) → listing_limit < length file → listing (Refused FileTooLong 0) (replicate tree_length 0) ≡ file_listing file
+pub too_long : (file : List ℕ) → listing_limit < length file → listing (refused_with FileTooLong 0) (replicate tree_length 0) ≡ file_listing file
 unfolding file_listing
 too_long file more = rw (lt-ltb listing_limit (length file) more) refl
 

@@ -1,4 +1,5 @@
 -- The entry beside the old one, and one name list beside another. Assumes nothing.
+use Rattle.rows.specs.Answer.{refused_with}
 use Rattle.std.specs.Prelude.{ℕ, ◌<◌, ◌≡◌, ◌≢◌, Bool, true, List, eqb}
 use Rattle.std.proofs.Math.Path.{refl, ap}
 use Rattle.std.proofs.Common.{subst, ◌∙◌, arith}
@@ -11,7 +12,6 @@ use Rattle.rows.specs.Laws.RowFacts.{GoodTokens, good_row}
 use Rattle.rows.specs.Laws.Numbered.{Between}
 use Rattle.rows.specs.Laws.Tests.{by_if}
 use Rattle.rows.specs.declared.answer.TypeNameError.{TypeNameError}
-use Rattle.rows.specs.declared.answer.Answer.TheVariants.{Refused}
 use Rattle.names.specs.NameList.{listed, name_list, names_marked}
 use Rattle.prescan.specs.Prescan.{Scanned, passed, prescan}
 use Rattle.prescan.specs.Prescan
@@ -113,7 +113,7 @@ module _ (file names : List ℕ) (room : ℕ) (r : HeadRow) (is_row : file_row f
       let has : Has file room r = subst (Comes file room) is_row (file_comes file room) in
       good_row format file most_tokens head_length r.tokens has.row_is
 
-  pub never_26_or_27 : NoneFollowed ns r.tokens → (e : TypeNameError) (m : ℕ) → answer_named file names room ≡ Refused e m → NotNew e
+  pub never_26_or_27 : NoneFollowed ns r.tokens → (e : TypeNameError) (m : ℕ) → answer_named file names room ≡ refused_with e m → NotNew e
   unfolding answer_named named_outcome on_pass
   never_26_or_27 none e m q = answered_refusals NotNew (named_outcome file names room) (rw is_row (old_answer names r good ns is_listed none)) e m q
 

@@ -1,6 +1,7 @@
 -- From what the layers below say to the answer of a row whose template names are given. Assumes nothing.
+use Rattle.rows.specs.Answer.{refused_with, Answer}
 use Prim.Native.Nat.{ℕ, suc, ◌<◌}
-use Rattle.std.specs.Prelude.{◌≡◌, ◌≢◌, Bool, true, take}
+use Rattle.std.specs.Prelude.{◌≡◌, ◌≢◌, Bool, true, take, Result, Err}
 use Rattle.std.proofs.Math.Path.{refl, ap, subst}
 use Rattle.std.proofs.Common.{sym, ◌∙◌, arith, eq-eqb, ne_eqb}
 use Rattle.std.proofs.Math.Bool.{false}
@@ -12,18 +13,16 @@ use Rattle.rows.specs.Format.{format, head_length, most_tokens}
 use Rattle.rows.specs.Records.{RowToken, kinds_of, words_of}
 use Rattle.rows.specs.Laws.RowFacts.{good_row}
 use Rattle.rows.specs.declared.head.Head.{Head}
-use Rattle.rows.specs.declared.answer.Answer.{Answer}
-use Rattle.rows.specs.declared.answer.Answer.TheVariants.{Refused}
 use Rattle.rows.specs.declared.answer.TypeNameError.{TypeNameError}
 use Rattle.rows.specs.declared.answer.TypeNameError.TheVariants.{InvalidNameList}
 use Rattle.names.specs.NameList.{listed, malformed, name_list, names_marked}
 use Rattle.prescan.specs.Prescan.{Scan, passed, prescan}
 use Rattle.prescan.specs.Prescan
 use Rattle.reader.specs.Reading.{Got, kind_at}
-use Rattle.reader.specs.ReaderSays.{Parses}
+use Rattle.reader.specs.ReaderSays.{Parses, refused_unread}
 use Rattle.reader.specs.Laws.Tokens.{KindsKnown, inside, kind_in}
-use Rattle.reader.specs.declared.parser.Parsed.{Parsed}
-use Rattle.reader.specs.declared.parser.Parsed.TheVariants as R
+use Rattle.reader.specs.declared.parser.Tree.{Tree}
+use Rattle.reader.specs.declared.parser.ParseError.{ParseError}
 use Rattle.named_reader.specs.NamedReading.{named_reading}
 use Rattle.named_reader.specs.Laws.Sound.{named_derived}
 use Rattle.named_reader.specs.Laws.SameNames.{same_reading}
@@ -41,11 +40,11 @@ use Rattle.named_answers.specs.NamedAnswersSay.{NamesTold, FindsNames, RowIn, Ro
 -- ---- the row's tree
 
 module _ (named : List Bool) (al : ℕ) (kinds : List ℕ) where
-  pub named_refused : {e : TypeNameError} {tree : List ℕ} → prescan Cpp kinds ≡ Prescan.refused e → TreeSays kinds al (named_tree named kinds) (R.Refused e 0) tree
+  pub named_refused : {e : TypeNameError} {tree : List ℕ} → prescan Cpp kinds ≡ Prescan.refused e → TreeSays kinds al (named_tree named kinds) (Err (refused_unread e)) tree
   unfolding named_tree
   named_refused q = tree_refused Cpp al kinds (named_reading named kinds) q
 
-  pub named_parsed : KindsKnown kinds → (t : Scan) × (prescan Cpp kinds ≡ passed t) → {r : Parsed} {tree : List ℕ} → Parses kinds al (named_reading named kinds) r tree
+  pub named_parsed : KindsKnown kinds → (t : Scan) × (prescan Cpp kinds ≡ passed t) → {r : Result Tree ParseError} {tree : List ℕ} → Parses kinds al (named_reading named kinds) r tree
       → TreeSays kinds al (named_tree named kinds) r tree
   unfolding named_tree
   named_parsed known t h = tree_parsed Cpp al kinds (named_reading named kinds) (λ x a k m e. named_derived kinds named known e) t h
@@ -70,19 +69,19 @@ module _ {file kinds words : List ℕ} {ts : List RowToken} (r : RowIn file ts k
       ∙ ap (λ (ks : List ℕ). named_tree (names_marked ns ts) ks) r.of_row.kinds_are
 
 module _ (h : Head) (file kinds words names : List ℕ) where
-  refused_here : {tree : List ℕ} (ts : List RowToken) → due h names ts ≡ refused InvalidNameList 0 → ReadsRow (due h names ts) (Refused InvalidNameList 0) tree
+  refused_here : {tree : List ℕ} (ts : List RowToken) → due h names ts ≡ refused InvalidNameList 0 → ReadsRow (due h names ts) (refused_with InvalidNameList 0) tree
   unfolding answer_in
-  refused_here {tree} ts e = subst (λ (o : RowAnswer). ReadsRow o (Refused InvalidNameList 0) tree) (sym e) (record { answered = refl; in_front = tt })
+  refused_here {tree} ts e = subst (λ (o : RowAnswer). ReadsRow o (refused_with InvalidNameList 0) tree) (sym e) (record { answered = refl; in_front = tt })
 
   -- The language is not C++,
-  pub other_language : {tree : List ℕ} → h.language ≢ Cpp → ReadsNamed h file kinds words names (Refused InvalidNameList 0) tree
+  pub other_language : {tree : List ℕ} → h.language ≢ Cpp → ReadsNamed h file kinds words names (refused_with InvalidNameList 0) tree
   unfolding named_answer
   other_language q = record { says = λ ts r. refused_here ts (rw (ne_eqb h.language Cpp q) refl) }
 
   module _ (cpp : h.language ≡ Cpp) where
     -- the name list is malformed,
     pub names_malformed : {marks : List Bool} {b : Bool} {tree : List ℕ} → b ≡ false → FindsNames file kinds names marks b
-        → ReadsNamed h file kinds words names (Refused InvalidNameList 0) tree
+        → ReadsNamed h file kinds words names (refused_with InvalidNameList 0) tree
     unfolding named_answer by_names
     names_malformed {marks} e f =
         let m : name_list names ≡ malformed = subst (NamesTold file kinds names marks) e f.told in
@@ -95,7 +94,7 @@ module _ (h : Head) (file kinds words names : List ℕ) where
     due_is ts ns e = rw (cpp, e) refl
 
     -- or the row is checked.
-    pub names_checked : {marks : List Bool} {b : Bool} {tree : List ℕ} {p : Parsed} {a : Answer} → b ≡ true → FindsNames file kinds names marks b
+    pub names_checked : {marks : List Bool} {b : Bool} {tree : List ℕ} {p : Result Tree ParseError} {a : Answer} → b ≡ true → FindsNames file kinds names marks b
         → TreeSays kinds h.allowance (named_tree marks kinds) p tree → CheckSays h kinds words p tree a → ReadsNamed h file kinds words names a tree
     names_checked {marks} {tree = tree} {a = a} e f t c =
         let told = subst (NamesTold file kinds names marks) e f.told in
@@ -125,7 +124,7 @@ module _ {h : Head} {file kinds words names before : List ℕ} where
   named_fits held r = told_fits (r.says held.tokens held.row_in)
 
 module _ (file names before : List ℕ) where
-  pub untouched_answer : {e : TypeNameError} → file_row format file (length before) ≡ untouched e → Refused e 0 ≡ answer_named file names (length before)
+  pub untouched_answer : {e : TypeNameError} → file_row format file (length before) ≡ untouched e → refused_with e 0 ≡ answer_named file names (length before)
   unfolding answer_named answer_in named_outcome on_pass
   untouched_answer q = rw q refl
 

@@ -1,5 +1,6 @@
 -- What is promised of the entry follows from the answer and the buffer being the definition's.
 -- Assumes nothing.
+use Rattle.rows.specs.Answer.{accepted_with, refused_with, Answer}
 use Rattle.std.specs.Prelude.{ℕ, ◌≤◌, ◌≡◌, Bool, List, length}
 use Rattle.std.proofs.Common.{sym, subst, ◌∙◌, arith}
 use Rattle.std.proofs.Math.Path.{ap}
@@ -10,8 +11,6 @@ use Rattle.rows.specs.Refusals.{refusal_of}
 use Rattle.rows.specs.Laws.RowFacts.{GoodTokens, good_row}
 use Rattle.rows.specs.declared.head.Head.{Head}
 use Rattle.rows.specs.declared.answer.TypeNameError.{TypeNameError}
-use Rattle.rows.specs.declared.answer.Answer.{Answer}
-use Rattle.rows.specs.declared.answer.Answer.TheVariants.{Accepted, Refused}
 use Rattle.names.specs.NameList.{names_marked}
 use Rattle.reader.specs.Nodes.{Nodes, count, records}
 use Rattle.reader.specs.Reading.{MAX_NESTING_DEPTH}
@@ -45,7 +44,7 @@ use Rattle.named_answers.specs.Laws.NamedRow.{OfRow, answer_given, NamedAccepted
 -- ---- refusals
 
 module _ (file names : List ℕ) (room : ℕ) where
-  pub outcome_given : (e : TypeNameError) (m : ℕ) → answer_named file names room ≡ Refused e m → Given e
+  pub outcome_given : (e : TypeNameError) (m : ℕ) → answer_named file names room ≡ refused_with e m → Given e
   unfolding answer_named named_outcome
   outcome_given e m q =
       answered_refusals Given (named_outcome file names room)
@@ -56,7 +55,7 @@ module _ (file names : List ℕ) (room : ℕ) where
       given (accepted x m) p = tt
       given (refused e m) p = p.0
 
-  pub never_21_to_23 : (e : TypeNameError) (m : ℕ) → answer_named file names room ≡ Refused e m → 21 ≤ (refusal_of e).number → (refusal_of e).number ≤ 23 → ⊥
+  pub never_21_to_23 : (e : TypeNameError) (m : ℕ) → answer_named file names room ≡ refused_with e m → 21 ≤ (refusal_of e).number → (refusal_of e).number ≤ 23 → ⊥
   never_21_to_23 e m q low high = by (outcome_given e m q) low high
     where
       by : {e : TypeNameError} → Given e → 21 ≤ (refusal_of e).number → (refusal_of e).number ≤ 23 → ⊥
@@ -116,7 +115,7 @@ module _ (file names file' before' : List ℕ) (ts : List RowToken) (x : Nodes) 
       (named_accepted names b.head_of ts b.answers_so) in
       named_later names n.head_of n.head_of' ts r n.same_language n.same_flag n.same_or_later n.enough
 
-  comes_back : (answer_named file' names (length before') ≡ Accepted (count x) steps) × (buffer_named file' names before' ≡ filled (length before') (records x))
+  comes_back : (answer_named file' names (length before') ≡ accepted_with (count x) steps) × (buffer_named file' names before' ≡ filled (length before') (records x))
   unfolding answer_named answer_in buffer_named buffer_in named_outcome
   comes_back =
       let again : named_outcome file' names (length before') ≡ passes (accepted x steps) = outcome_again (named_answer names) file file' before' ts x steps b.row_is n same_answer in

@@ -2,7 +2,7 @@
 -- no try failed) and the word before each L is a name, this reading gives the same tree and steps.
 -- Assumes nothing.
 use Prim.Native.Nat.{ℕ, zero, suc, ◌+◌, ◌*◌, ◌<◌}
-use Rattle.std.specs.Prelude.{◌≡◌, ◌≢◌, Bool, not, ◌&&◌, ◌||◌, leb, ltb, eqb}
+use Rattle.std.specs.Prelude.{◌≡◌, ◌≢◌, Bool, not, ◌&&◌, ◌||◌, leb, ltb, eqb, Some}
 use Rattle.std.proofs.Math.Path.{refl, ap}
 use Rattle.std.proofs.Common.{sym, ◌∙◌, subst, ltb→lt, eqb→eq}
 use Rattle.std.proofs.Math.Bool.{true, false, true≢false}
@@ -16,7 +16,6 @@ use Rattle.rows.specs.Kinds.{Identifier, LeftParen, RightParen, LeftBracket, Rig
 use Rattle.rows.specs.Laws.Tests.{by_if}
 use Rattle.rows.specs.declared.answer.Delimiter.{Delimiter}
 use Rattle.rows.specs.declared.answer.Delimiter.TheVariants.{Parenthesis, Bracket}
-use Rattle.rows.specs.declared.answer.Open.TheVariants.{Opened}
 use Rattle.rows.specs.declared.answer.TypeNameError.TheVariants.{NestingLimitExceeded}
 use Rattle.prescan.specs.Matcher.{opens, neither, role, same}
 use Rattle.reader.specs.Nodes.{NodeKind, t_node, g_node, b_node, l_node, a_node, Nodes, none, node}
@@ -72,7 +71,7 @@ abbrev Met : Region → (w : Bool) (k a : ℕ) → Next → Type 0
 Met l w k a (ends a') = Ended l k a a'
 Met l w k a (stops e) = Unit {0}
 Met l w k a (token v) = (l ≢ list) × (v ≡ eqb k Identifier) × (k ≢ NoToken) × Goes l k
-Met l w k a (Old.group g v) = (l ≢ list) × (k ≢ NoToken) × (d : Delimiter) × (g ≡ node_of d) × (v ≡ region_of (Opened d)) × (role k ≡ opens d)
+Met l w k a (Old.group g v) = (l ≢ list) × (k ≢ NoToken) × (d : Delimiter) × (g ≡ node_of d) × (v ≡ region_of (Some d)) × (role k ≡ opens d)
 Met l w k a angle = (l ≢ list) × (k ≡ Less) × (w ≡ true)
 Met l w k a first = l ≡ list
 
@@ -298,7 +297,7 @@ module _ (row : List ℕ) (named : List Bool) (no_shift : (i : ℕ) → kind_at 
     deep_enough : (n : ℕ) (fs : List Frame) → T (ltb n MAX_NESTING_DEPTH) → length fs ≡ n → length fs < MAX_NESTING_DEPTH
     deep_enough n fs t e = omega (arith, ltb→lt n MAX_NESTING_DEPTH t, e)
 
-    in_group : (d : Delimiter) {a : ℕ} {b : Nodes} {fs : List Frame} → Fits (region_of (Opened d)) (Named.group d a b ∷ fs)
+    in_group : (d : Delimiter) {a : ℕ} {b : Nodes} {fs : List Frame} → Fits (region_of (Some d)) (Named.group d a b ∷ fs)
     in_group Parenthesis = in_round
     in_group Bracket = in_square
 
@@ -308,11 +307,11 @@ module _ (row : List ℕ) (named : List Bool) (no_shift : (i : ℕ) → kind_at 
     left_group Bracket a b c fs s = refl
 
     group_goes : (l : Region) (d n a : ℕ) (e : Delimiter) → l ≢ list → kind_at row a ≢ NoToken → role (kind_at row a) ≡ opens e
-        → GoesAs l n a (case (down true row read (ltb n MAX_NESTING_DEPTH) (region_of (Opened e)) d (suc n) (suc a) false)
+        → GoesAs l n a (case (down true row read (ltb n MAX_NESTING_DEPTH) (region_of (Some e)) d (suc n) (suc a) false)
         (λ c a₁ h₁ m. before (node_of e) a c (suc m) (read l d n false a₁ h₁)) (λ x m. bad x (suc m)))
     unfolding ◌then◌
     group_goes l d n a e q z r =
-        down_goes (ltb n MAX_NESTING_DEPTH) l (region_of (Opened e)) d d n (suc a) (GoesAs l n a) _ _
+        down_goes (ltb n MAX_NESTING_DEPTH) l (region_of (Some e)) d d n (suc a) (GoesAs l n a) _ _
         (λ c a₁ h₁ m t inner.
         before_goes l q (node_of e) c n a a₁ (suc m) (read l d n false a₁ h₁)
         (λ x kept. rest_goes l d n a₁ h₁ (inner (kept_below kept)).0)

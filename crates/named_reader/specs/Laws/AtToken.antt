@@ -1,7 +1,7 @@
 -- What the functions of single tokens say, of whichever state the code's state and buffer are.
 -- Assumes nothing.
 use Prim.Native.Nat.{ℕ, suc, ◌+◌, ◌*◌, ◌-◌}
-use Rattle.std.specs.Prelude.{◌≡◌, ◌≢◌, Bool, false, eqb}
+use Rattle.std.specs.Prelude.{◌≡◌, ◌≢◌, Bool, false, eqb, Result, Ok, Err}
 use Rattle.std.proofs.Math.Path.{refl, sym, ap, subst}
 use Rattle.std.proofs.Common.{◌∙◌, true≢false, arith}
 use Rattle.std.proofs.Math.Bool.{true}
@@ -17,8 +17,7 @@ use Rattle.reader.specs.Tables.{node_of}
 use Rattle.named_reader.specs.NamedReading.{Frame, group, list, State, Step, on, stops, plain, unless_empty, closed, at_greater, second_half, at_shift, at_comma, at_closer}
 use Rattle.named_reader.specs.NamedSays.{begun, link, Stands, Held, HeldList, HeldGroup, list_innermost, InList, Comes, Does, innermost_closed, argument_ended, group_closed, Moves}
 use Rattle.named_reader.specs.declared.frames.NamedReader.{NamedReader}
-use Rattle.named_reader.specs.declared.frames.NamedStep.{NamedStep}
-use Rattle.named_reader.specs.declared.frames.NamedStep.TheVariants as Code
+use Rattle.reader.specs.declared.parser.Stop.{Stop}
 use Rattle.named_reader.specs.Laws.Moves.{many, list_inner, group_inner, group_kind, argument_kind, group_no_argument}
 
 -- ---- what is open innermost
@@ -62,7 +61,7 @@ module _ (at : ℕ) (s : State) where
   comma_plain (group d i x ∷ outer) q = refl
   comma_plain (list i x y j ∷ outer) q = absurd (true≢false (sym q))
 
-module _ {tree after : List ℕ} {r : NamedReader} {done : NamedStep} where
+module _ {tree after : List ℕ} {r : NamedReader} {done : Result NamedReader Stop} where
   -- What is due in each state is the same.
   pub due_same : {due due' : State → Step} → Does tree r after done due → ((s : State) → Stands tree r s → due' s ≡ due s) → Does tree r after done due'
   due_same {due} {due'} d f =
@@ -121,15 +120,15 @@ module _ {tree : List ℕ} {r : NamedReader} (l : InList tree r true) where
 
   module _ {after : List ℕ} (due : State → Step) (next : State → Step)
       (in_due : (s : State) → true ≡ list_innermost s.frames → due s ≡ unless_empty s.nodes s.steps (next s)) where
-    pub argument_empty : r.inner ≡ r.nodes → Does tree r after (Code.Refused EmptyOrUnclosedList r.left) due
+    pub argument_empty : r.inner ≡ r.nodes → Does tree r after (Err (Stop.Refused EmptyOrUnclosedList r.left)) due
     argument_empty e = record {
       says = λ s st.
-          subst (λ (t : Step). Comes (s.steps + r.left) after t (Code.Refused EmptyOrUnclosedList r.left))
+          subst (λ (t : Step). Comes (s.steps + r.left) after t (Err (Stop.Refused EmptyOrUnclosedList r.left)))
           (sym (in_due s (l.says s st) ∙ empty_is s.nodes s.steps (next s) (omega (arith, e, nodes_there s st)))) (refl, refl);
       grown = tt;
     }
 
-    pub argument_some : {done : NamedStep} → r.inner ≢ r.nodes → Does tree r after done next → Does tree r after done due
+    pub argument_some : {done : Result NamedReader Stop} → r.inner ≢ r.nodes → Does tree r after done next → Does tree r after done due
     argument_some e d = due_same d (λ s st. in_due s (l.says s st) ∙ some_is s.nodes s.steps (next s) (omega (arith, e, nodes_there s st)))
 
 -- A move is a step on.
@@ -147,22 +146,22 @@ ended_steps at (list i x y j ∷ outer) s = refl
 
 module _ {tree after : List ℕ} {r r' : NamedReader} where
   pub greater_closes : {b : Bool} (at : ℕ) → b ≡ true → InList tree r b → r.inner ≢ r.nodes → Moves tree r after r' 0 (λ s. innermost_closed s.frames s)
-      → Does tree r after (Code.On r') (λ s. at_greater at s.frames s)
+      → Does tree r after (Ok r') (λ s. at_greater at s.frames s)
   greater_closes at eb l e m =
       argument_some (in_list_is eb l) (λ s. at_greater at s.frames s) (λ s. on (innermost_closed s.frames s)) (λ s q. greater_in at s.frames s q) e
       (record { says = λ s st. (m.says s st, omega (arith, m.same_left, kept_steps s.frames s)); grown = omega (arith, m.grown) })
 
   pub comma_ends : {b : Bool} (at : ℕ) → b ≡ true → InList tree r b → r.inner ≢ r.nodes → Moves tree r after r' 1 (λ s. argument_ended at s.frames s)
-      → Does tree r after (Code.On r') (λ s. at_comma at s.frames s)
+      → Does tree r after (Ok r') (λ s. at_comma at s.frames s)
   comma_ends at eb l e m =
       argument_some (in_list_is eb l) (λ s. at_comma at s.frames s) (λ s. on (argument_ended at s.frames s)) (λ s q. comma_in at s.frames s q) e
       (record { says = λ s st. (m.says s st, omega (arith, m.same_left, ended_steps at s.frames s)); grown = omega (arith, m.grown) })
 
 module _ {tree after : List ℕ} {r : NamedReader} where
-  pub greater_empty : {b : Bool} (at : ℕ) → b ≡ true → InList tree r b → r.inner ≡ r.nodes → Does tree r after (Code.Refused EmptyOrUnclosedList r.left) (λ s. at_greater at s.frames s)
+  pub greater_empty : {b : Bool} (at : ℕ) → b ≡ true → InList tree r b → r.inner ≡ r.nodes → Does tree r after (Err (Stop.Refused EmptyOrUnclosedList r.left)) (λ s. at_greater at s.frames s)
   greater_empty at eb l e = argument_empty (in_list_is eb l) (λ s. at_greater at s.frames s) (λ s. on (innermost_closed s.frames s)) (λ s q. greater_in at s.frames s q) e
 
-  pub comma_empty : {b : Bool} (at : ℕ) → b ≡ true → InList tree r b → r.inner ≡ r.nodes → Does tree r after (Code.Refused EmptyOrUnclosedList r.left) (λ s. at_comma at s.frames s)
+  pub comma_empty : {b : Bool} (at : ℕ) → b ≡ true → InList tree r b → r.inner ≡ r.nodes → Does tree r after (Err (Stop.Refused EmptyOrUnclosedList r.left)) (λ s. at_comma at s.frames s)
   comma_empty at eb l e = argument_empty (in_list_is eb l) (λ s. at_comma at s.frames s) (λ s. on (argument_ended at s.frames s)) (λ s q. comma_in at s.frames s q) e
 
 -- ---- both halves of a `>>`
@@ -183,32 +182,32 @@ second_list (group d i x ∷ outer) s q = absurd (true≢false q)
 second_list (list i x y j ∷ outer) s q = refl
 
 module _ {tree : List ℕ} {r : NamedReader} {b : Bool} (at : ℕ) (eb : b ≡ true) (l : InList tree r b) where
-  pub shift_empty : {after : List ℕ} → r.inner ≡ r.nodes → Does tree r after (Code.Refused EmptyOrUnclosedList r.left) (λ s. at_shift at s.frames s)
+  pub shift_empty : {after : List ℕ} → r.inner ≡ r.nodes → Does tree r after (Err (Stop.Refused EmptyOrUnclosedList r.left)) (λ s. at_shift at s.frames s)
   unfolding half
   shift_empty e = argument_empty (in_list_is eb l) (λ s. at_shift at s.frames s) half (λ s q. shift_in at s.frames s q) e
 
   module _ {between : List ℕ} {r₁ : NamedReader} (e : r.inner ≢ r.nodes) (m : Moves tree r between r₁ 0 (λ s. innermost_closed s.frames s)) where
-    pub shift_alone : {c : Bool} {after : List ℕ} → c ≡ false → InList between r₁ c → Does tree r after (Code.Refused ShiftWithoutList r₁.left) (λ s. at_shift at s.frames s)
+    pub shift_alone : {c : Bool} {after : List ℕ} → c ≡ false → InList between r₁ c → Does tree r after (Err (Stop.Refused ShiftWithoutList r₁.left)) (λ s. at_shift at s.frames s)
     unfolding half
     shift_alone {after = after} ec l₁ =
         argument_some (in_list_is eb l) (λ s. at_shift at s.frames s) half (λ s q. shift_in at s.frames s q) e
         (record {
           says = λ s st.
-              subst (λ (t : Step). Comes (s.steps + r.left) after t (Code.Refused ShiftWithoutList r₁.left))
+              subst (λ (t : Step). Comes (s.steps + r.left) after t (Err (Stop.Refused ShiftWithoutList r₁.left)))
               (sym (second_none (innermost_closed s.frames s).frames (innermost_closed s.frames s) (sym ec ∙ l₁.says (innermost_closed s.frames s) (m.says s st))))
               (refl, omega (arith, m.same_left, kept_steps s.frames s));
           grown = tt;
         })
 
     pub shift_closes : {c : Bool} {after : List ℕ} {r₂ : NamedReader} → c ≡ true → InList between r₁ c → Moves between r₁ after r₂ 0 (λ s. innermost_closed s.frames s)
-        → Does tree r after (Code.On r₂) (λ s. at_shift at s.frames s)
+        → Does tree r after (Ok r₂) (λ s. at_shift at s.frames s)
     unfolding half
     shift_closes {after = after} {r₂ = r₂} ec l₁ m₁ =
         argument_some (in_list_is eb l) (λ s. at_shift at s.frames s) half (λ s q. shift_in at s.frames s q) e
         (record {
           says = λ s st.
               let s₁ = innermost_closed s.frames s in
-              subst (λ (t : Step). Comes (s.steps + r.left) after t (Code.On r₂))
+              subst (λ (t : Step). Comes (s.steps + r.left) after t (Ok r₂))
               (sym (second_list s₁.frames s₁ (sym ec ∙ l₁.says s₁ (m.says s st))))
               (m₁.says s₁ (m.says s st), omega (arith, m.same_left, m₁.same_left, kept_steps s.frames s, kept_steps s₁.frames s₁));
           grown = omega (arith, m.grown, m₁.grown);
@@ -257,27 +256,27 @@ module _ {tree : List ℕ} {r : NamedReader} where
       (λ i x y j outer is z. absurd (q (ek ∙ z)))
 
   module _ {after : List ℕ} (d : Delimiter) where
-    pub closer_none : r.inner ≡ 0 → Does tree r after (Code.Refused MismatchedClosingDelimiter r.left) (λ s. at_closer d s.frames s)
+    pub closer_none : r.inner ≡ 0 → Does tree r after (Err (Stop.Refused MismatchedClosingDelimiter r.left)) (λ s. at_closer d s.frames s)
     unfolding at_closer link
     closer_none e = record { says = λ s st. by s s.frames (sym st.linked ∙ e); grown = tt }
       where
-        by : (s : State) (fs : List Frame) → link fs ≡ 0 → Comes (s.steps + r.left) after (at_closer d fs s) (Code.Refused MismatchedClosingDelimiter r.left)
+        by : (s : State) (fs : List Frame) → link fs ≡ 0 → Comes (s.steps + r.left) after (at_closer d fs s) (Err (Stop.Refused MismatchedClosingDelimiter r.left))
         by s [] q = (refl, refl)
         by s (group d' i x ∷ outer) q = absurd (omega (arith, q))
         by s (list i x y j ∷ outer) q = absurd (omega (arith, q))
 
-    pub closer_list : {k : ℕ} → r.inner ≢ 0 → k ≡ inner_kind tree r → k ≡ number a_node → Does tree r after (Code.Refused EmptyOrUnclosedList r.left) (λ s. at_closer d s.frames s)
+    pub closer_list : {k : ℕ} → r.inner ≢ 0 → k ≡ inner_kind tree r → k ≡ number a_node → Does tree r after (Err (Stop.Refused EmptyOrUnclosedList r.left)) (λ s. at_closer d s.frames s)
     unfolding at_closer
     closer_list e ek q = record {
       says = λ s st.
-          by_kind (λ fs. Comes (s.steps + r.left) after (at_closer d fs s) (Code.Refused EmptyOrUnclosedList r.left)) s st e
+          by_kind (λ fs. Comes (s.steps + r.left) after (at_closer d fs s) (Err (Stop.Refused EmptyOrUnclosedList r.left))) s st e
           (λ d' i x outer is z. absurd (group_no_argument d' (sym z ∙ sym ek ∙ q)))
           (λ i x y j outer is z. rw is (refl, refl));
       grown = tt;
     }
 
     pub closer_group : {k n : ℕ} {r' : NamedReader} → r.inner ≢ 0 → k ≡ inner_kind tree r → k ≢ number a_node → k ≡ n → n ≡ number (node_of d)
-        → Moves tree r after r' 0 (λ s. group_closed s.frames s) → Does tree r after (Code.On r') (λ s. at_closer d s.frames s)
+        → Moves tree r after r' 0 (λ s. group_closed s.frames s) → Does tree r after (Ok r') (λ s. at_closer d s.frames s)
     unfolding at_closer group_closed
     closer_group {r' = r'} e ek q p en m =
         due_same
@@ -287,11 +286,11 @@ module _ {tree : List ℕ} {r : NamedReader} where
         (λ i x y j outer is z. absurd (q (ek ∙ z))))
 
     pub closer_other : {k n : ℕ} → r.inner ≢ 0 → k ≡ inner_kind tree r → k ≢ number a_node → k ≢ n → n ≡ number (node_of d)
-        → Does tree r after (Code.Refused MismatchedClosingDelimiter r.left) (λ s. at_closer d s.frames s)
+        → Does tree r after (Err (Stop.Refused MismatchedClosingDelimiter r.left)) (λ s. at_closer d s.frames s)
     unfolding at_closer
     closer_other e ek q p en = record {
       says = λ s st.
-          by_kind (λ fs. Comes (s.steps + r.left) after (at_closer d fs s) (Code.Refused MismatchedClosingDelimiter r.left)) s st e
+          by_kind (λ fs. Comes (s.steps + r.left) after (at_closer d fs s) (Err (Stop.Refused MismatchedClosingDelimiter r.left))) s st e
           (λ d' i x outer is z. rw (is, same_by_kind d' d, ne_eqb (number (node_of d')) (number (node_of d)) (λ u. p (ek ∙ z ∙ u ∙ sym en))) (refl, refl))
           (λ i x y j outer is z. absurd (q (ek ∙ z)));
       grown = tt;

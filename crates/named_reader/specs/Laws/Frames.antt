@@ -1,12 +1,11 @@
 -- How the state's nodes stand in the tree buffer: what is written behind them, and what takes the place of a link.
 -- Assumes nothing.
-use Rattle.std.specs.Prelude.{ℕ, suc, ◌+◌, ◌*◌, ◌-◌, ◌≤◌, ◌<◌, ◌≡◌, refl, List, [], ◌∷◌, ◌++◌, length, get_or, take, drop, set}
+use Rattle.std.specs.Prelude.{ℕ, suc, ◌+◌, ◌*◌, ◌<◌, ◌≡◌, refl, List, [], ◌∷◌, ◌++◌, length, get_or, take, set}
 use Rattle.std.proofs.Common.{sym, ap, ◌∙◌, append_assoc, append-nil, arith, length-append, get_or-take}
 use Rattle.std.proofs.lemmas.List.{set_at, get_or_at}
 use Rattle.std.proofs.Math.Seq.{take-set-lt}
 use Rattle.reader.specs.Nodes.{NodeKind, number, Nodes, none, node, count, node_width, records}
 use Rattle.reader.specs.Laws.NodeNumbers.{three_each}
-use Rattle.reader.specs.Laws.Buffer.{lent, given_back, after_front}
 use Rattle.named_reader.specs.NamedReading.{Frame, group, list, push}
 use Rattle.named_reader.specs.NamedSays.{begun, open_records}
 
@@ -73,14 +72,3 @@ module _ (n : ℕ) (tree front behind : List ℕ) (k i v p : ℕ) (held : take n
   last_put w =
       take-set-lt n tree (p + 2) w inside ∙ ap (λ (l : List ℕ). set l (p + 2) w) (held ∙ apart)
       ∙ set_at (front ++ k ∷ i ∷ []) v behind w (p + 2) apart_long ∙ append_assoc front (k ∷ i ∷ []) (w ∷ behind)
-
--- A record behind those of n nodes, as it is written into what is lent of the buffer from there on.
-pub behind : (tree : List ℕ) (n k i v : ℕ) {lent_back : List ℕ} → node_width * (n + 1) ≤ length tree
-    → lent_back ≡ k ∷ i ∷ v ∷ drop node_width (lent (node_width * n) tree)
-    → take (node_width * (n + 1)) (given_back (node_width * n) tree lent_back) ≡ take (node_width * n) tree ++ k ∷ i ∷ v ∷ []
-behind tree n k i v {lent_back = lent_back} room e =
-    let wide : node_width * (n + 1) ≡ node_width * n + node_width = omega arith in
-    ap (λ (m : ℕ). take m (given_back (node_width * n) tree lent_back)) wide
-    ∙ after_front tree lent_back (drop (length tree - node_width * n) (drop (node_width * n) tree)) (node_width * n) node_width (omega (arith, room))
-    (rw e (omega arith))
-    ∙ ap (λ (l : List ℕ). take (node_width * n) tree ++ take node_width l) e

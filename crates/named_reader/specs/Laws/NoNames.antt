@@ -1,7 +1,7 @@
 -- Where no `<` follows a name, this reading is the old one with no list tried: the same tree or refusal, and the same steps.
 -- Assumes nothing.
 use Prim.Native.Nat.{ℕ, zero, suc, ◌+◌, ◌≤◌, ◌<◌}
-use Rattle.std.specs.Prelude.{◌≡◌, ◌≢◌, Bool, true, length, get_or, drop, ltb, eqb, if◌then◌else◌}
+use Rattle.std.specs.Prelude.{◌≡◌, ◌≢◌, Bool, true, length, get_or, drop, ltb, eqb, if◌then◌else◌, Some}
 use Rattle.std.proofs.Math.Path.{refl, sym, ap}
 use Rattle.std.proofs.Common.{◌∙◌, eqb→eq}
 use Rattle.std.proofs.Math.Bool.{false}
@@ -13,7 +13,6 @@ use Rattle.rows.specs.Kinds.{Identifier, LeftParen, RightParen, LeftBracket, Rig
 use Rattle.rows.specs.Laws.Tests.{by_if, and_false}
 use Rattle.rows.specs.declared.answer.Delimiter.{Delimiter}
 use Rattle.rows.specs.declared.answer.Delimiter.TheVariants.{Parenthesis, Bracket}
-use Rattle.rows.specs.declared.answer.Open.TheVariants.{Opened}
 use Rattle.rows.specs.declared.answer.TypeNameError.{TypeNameError}
 use Rattle.rows.specs.declared.answer.TypeNameError.TheVariants.{NestingLimitExceeded}
 use Rattle.prescan.specs.Matcher.{Role, role, same}
@@ -38,7 +37,7 @@ Groups (list i x y j ∷ outer) = ⊥
 -- The region that is being read.
 abbrev region : List Frame → Region
 region [] = top
-region (group d i x ∷ outer) = region_of (Opened d)
+region (group d i x ∷ outer) = region_of (Some d)
 region (list i x y j ∷ outer) = top
 
 module _ (row : List ℕ) where
@@ -92,7 +91,7 @@ module _ (row : List ℕ) where
     -- A group.
     group_agrees : (d : Delimiter)
         → Agrees (begin (group d at b) state)
-        (case (down false row (read false row) (ltb (length fs) MAX_NESTING_DEPTH) (region_of (Opened d)) 0 (suc (length fs)) (suc at) false)
+        (case (down false row (read false row) (ltb (length fs) MAX_NESTING_DEPTH) (region_of (Some d)) 0 (suc (length fs)) (suc at) false)
         (λ c a h k. before (node_of d) at c (suc k) (old fs false a h)) (λ e k. bad e (suc k)))
     unfolding begin down case finish ◌then◌
     group_agrees d = by (ltb (length fs) MAX_NESTING_DEPTH)
@@ -105,9 +104,9 @@ module _ (row : List ℕ) where
 
         by : (t : Bool)
             → Agrees (if t then on (record { frames = group d at b ∷ fs; nodes = none; steps = suc m }) else Named.stops NestingLimitExceeded (suc m))
-            (case (down false row (read false row) t (region_of (Opened d)) 0 (suc (length fs)) (suc at) false)
+            (case (down false row (read false row) t (region_of (Some d)) 0 (suc (length fs)) (suc at) false)
             (λ c a h k. before (node_of d) at c (suc k) (old fs false a h)) (λ e k. bad e (suc k)))
-        by true = λ rest f. f _ false groups ∙ closes_agrees (read false row (region_of (Opened d)) 0 (suc (length fs)) false (suc at) false)
+        by true = λ rest f. f _ false groups ∙ closes_agrees (read false row (region_of (Some d)) 0 (suc (length fs)) false (suc at) false)
         by false = ap (bad (refusal NestingLimitExceeded)) (omega arith) ∙ sym (finish_bad fs b m (refusal NestingLimitExceeded) 1)
 
     -- A closer: at the top, in its own group, in the other one.
@@ -204,7 +203,7 @@ module _ (row : List ℕ) where
       by_if P (eqb k RightBracket) (λ t. rw (eqb→eq k RightBracket t) (closer_agrees fs g w b m at).1) λ y.
       others (neqb _ _ p) (neqb _ _ q) (neqb _ _ r) (neqb _ _ y)
     where
-      opener_agrees : (d : Delimiter) {n : Next} → n ≡ Old.group (node_of d) (region_of (Opened d))
+      opener_agrees : (d : Delimiter) {n : Next} → n ≡ Old.group (node_of d) (region_of (Some d))
           → Agrees fs g b m at (begin (group d at b) (record { frames = fs; nodes = b; steps = m })) (go false row (read false row) (region fs) 0 (length fs) n at false)
       opener_agrees d e = rw e (group_agrees fs g b m at d)
 

@@ -1,7 +1,7 @@
 -- Behind a prescan that passed, this reading refuses at a token or not at all, and only with 20, 26 or 27: no bracket is left to refuse, and no list is open
 -- at the row's end. Its groups are the brackets that the prescan holds, and outside them it has at most the angles open that the prescan counts.
 -- Assumes nothing.
-use Rattle.std.specs.Prelude.{ℕ, suc, ◌-◌, ◌≤◌, ◌<◌, Bool, ◌&&◌, length, drop, ltb, if◌then◌else◌}
+use Rattle.std.specs.Prelude.{ℕ, suc, ◌-◌, ◌≤◌, ◌<◌, Bool, ◌&&◌, length, drop, ltb, if◌then◌else◌, Some}
 use Rattle.std.proofs.Math.Path.{◌≡◌, refl, ap}
 use Rattle.std.proofs.Common.{sym, ◌∙◌, subst, arith, T_not, eqb→eq}
 use Rattle.std.proofs.Math.Bool.{true, false, not}
@@ -13,7 +13,6 @@ use Rattle.rows.specs.Languages.{Cpp}
 use Rattle.rows.specs.Laws.Tests.{by_if}
 use Rattle.rows.specs.declared.answer.Delimiter.{Delimiter}
 use Rattle.rows.specs.declared.answer.TypeNameError.{TypeNameError}
-use Rattle.rows.specs.declared.answer.Open.TheVariants.{Opened}
 use Rattle.rows.specs.declared.answer.TypeNameError.TheVariants.{UnexpectedClosingDelimiter, MismatchedClosingDelimiter, NestingLimitExceeded, ShiftWithoutList, EmptyOrUnclosedList, UnclosedAngle}
 use Rattle.prescan.specs.Matcher.{Role, opens, closes, neither, role, same, Opener}
 use Rattle.prescan.specs.Prescan.{Scan, Scanned, passed}
@@ -213,7 +212,7 @@ module _ (named : List Bool) (k at : ℕ) (c : Scan) (s : State) where
   closer_beside d (group d' i x ∷ outer) (o ∷ held) (in_group e h) = rw e (both (same o.delimiter d))
     where
       both : (b : Bool)
-          → Beside (if b then passed (Scanning.past k c held c.angle_depth c.first_angle) else Scanning.refused (UnexpectedClosingDelimiter (Opened o.delimiter) d at))
+          → Beside (if b then passed (Scanning.past k c held c.angle_depth c.first_angle) else Scanning.refused (UnexpectedClosingDelimiter (Some o.delimiter) d at))
           (if b then on (record { frames = outer; nodes = push (node_of o.delimiter) i s.nodes x; steps = s.steps }) else stops MismatchedClosingDelimiter s.steps)
       both true = h
       both false = tt

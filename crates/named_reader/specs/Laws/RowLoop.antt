@@ -1,7 +1,7 @@
 -- The row token by token: what the loop of the code keeps, and what it comes to.
 -- Assumes nothing.
 use Prim.Native.Nat.{ℕ, suc, ◌+◌, ◌*◌, ◌-◌, ◌≤◌, ◌<◌}
-use Rattle.std.specs.Prelude.{◌≡◌, ◌≢◌, Bool, true, false, ◌&&◌, get_or, drop, ltb, eqb}
+use Rattle.std.specs.Prelude.{◌≡◌, ◌≢◌, Bool, true, false, ◌&&◌, get_or, drop, ltb, eqb, Result, Ok, Err}
 use Rattle.std.proofs.Math.Path.{refl, ap, subst}
 use Rattle.std.proofs.Common.{sym, ◌∙◌, true≢false, drop_of_length-le, drop-cons}
 use Rattle.std.proofs.Math.Logic.{inl}
@@ -9,22 +9,21 @@ use mathlib.Core.List.{List, [], ◌∷◌}
 use native.Mathlib.Omega.{arith}
 use Rattle.std.proofs.Math.ListN.{length}
 use Rattle.rows.specs.Kinds.{Comma, Less, Greater, ShiftRight}
-use Rattle.rows.specs.Format.{most_tokens}
 use Rattle.rows.specs.Laws.Tests.{by_if}
 use Rattle.rows.specs.declared.answer.Delimiter.{Delimiter}
 use Rattle.rows.specs.declared.answer.TypeNameError.{TypeNameError}
 use Rattle.rows.specs.declared.answer.TypeNameError.TheVariants.{UnterminatedGroup, EmptyOrUnclosedList}
 use Rattle.prescan.specs.Matcher.{Role, opens, closes, neither, role, same}
-use Rattle.reader.specs.Nodes.{Nodes, none, node, count, numbers_per_token, records}
+use Rattle.reader.specs.Nodes.{Nodes, none, node, count, records}
 use Rattle.reader.specs.Reading.{Got, got, bad, MAX_NESTING_DEPTH}
 use Rattle.reader.specs.Allowance as Allowance
 use Rattle.reader.specs.ReaderSays.{ParseSays, Parses}
-use Rattle.reader.specs.declared.parser.Parsed.{Parsed}
+use Rattle.reader.specs.declared.parser.Tree.{Tree}
+use Rattle.reader.specs.declared.parser.ParseError.{ParseError}
 use Rattle.named_reader.specs.NamedReading.{Frame, group, list, State, Step, on, stops, plain, begin, unless_empty, closed, at_greater, second_half, at_shift, at_comma, at_closer, no_bracket, after_name, in_role, take_token, at_end, go_on, read_on, start, named_reading}
-use Rattle.named_reader.specs.NamedSays.{begun, link, open_records, Stands, Held, RoomFor, list_innermost, InList, Comes, Does, Grows, EndSays, Ends}
+use Rattle.named_reader.specs.NamedSays.{begun, link, open_records, Stands, list_innermost, InList, Comes, Does, Grows, EndSays, Ends}
 use Rattle.named_reader.specs.declared.frames.NamedReader.{NamedReader}
-use Rattle.named_reader.specs.declared.frames.NamedStep.{NamedStep}
-use Rattle.named_reader.specs.declared.frames.NamedStep.TheVariants as Code
+use Rattle.reader.specs.declared.parser.Stop.{Stop}
 use Rattle.named_reader.specs.Laws.Moves.{moved}
 
 -- ---- no token takes a step back
@@ -127,32 +126,32 @@ module _ (named : List Bool) where
 
 -- ---- the row's end
 
-pub ends_read : {tree : List ℕ} {r : NamedReader} (allowance steps : ℕ) → steps ≡ allowance - r.left → r.inner ≡ 0 → Ends tree r allowance (Parsed.Tree r.nodes steps)
+pub ends_read : {tree : List ℕ} {r : NamedReader} (allowance steps : ℕ) → steps ≡ allowance - r.left → r.inner ≡ 0 → Ends tree r allowance (Ok (record { nodes = r.nodes; steps = steps }))
 unfolding at_end link begun open_records
 ends_read {tree} {r} allowance steps e q = record { says = λ s st c at. by s st c at s.frames refl }
   where
-    by : (s : State) → Stands tree r s → s.steps + r.left ≡ allowance → (at : ℕ) (fs : List Frame) → s.frames ≡ fs → EndSays allowance tree (at_end at fs s) (Parsed.Tree r.nodes steps)
+    by : (s : State) → Stands tree r s → s.steps + r.left ≡ allowance → (at : ℕ) (fs : List Frame) → s.frames ≡ fs → EndSays allowance tree (at_end at fs s) (Ok (record { nodes = r.nodes; steps = steps }))
     by s st c at [] is = (omega (arith, e, c), sym (st.nodes_begun ∙ ap (λ (fs : List Frame). begun fs s.nodes) is), st.written ∙ ap (λ (fs : List Frame). open_records fs s.nodes) is)
     by s st c at (group d i x ∷ outer) is = absurd (omega (arith, q, st.linked ∙ ap link is))
     by s st c at (list i x y j ∷ outer) is = absurd (omega (arith, q, st.linked ∙ ap link is))
 
 pub ends_list : {tree : List ℕ} {r : NamedReader} {b : Bool} (allowance steps : ℕ) → steps ≡ allowance - r.left → b ≡ true → InList tree r b
-    → Ends tree r allowance (Parsed.Refused EmptyOrUnclosedList steps)
+    → Ends tree r allowance (Err (ParseError.Refused EmptyOrUnclosedList steps))
 unfolding at_end list_innermost
 ends_list {tree} {r} allowance steps e eb l = record { says = λ s st c at. by s c at s.frames (sym eb ∙ l.says s st) }
   where
-    by : (s : State) → s.steps + r.left ≡ allowance → (at : ℕ) (fs : List Frame) → true ≡ list_innermost fs → EndSays allowance tree (at_end at fs s) (Parsed.Refused EmptyOrUnclosedList steps)
+    by : (s : State) → s.steps + r.left ≡ allowance → (at : ℕ) (fs : List Frame) → true ≡ list_innermost fs → EndSays allowance tree (at_end at fs s) (Err (ParseError.Refused EmptyOrUnclosedList steps))
     by s c at [] q = absurd (true≢false q)
     by s c at (group d i x ∷ outer) q = absurd (true≢false q)
     by s c at (list i x y j ∷ outer) q = (refl, omega (arith, e, c))
 
 pub ends_group : {tree : List ℕ} {r : NamedReader} {b : Bool} (allowance steps : ℕ) → steps ≡ allowance - r.left → r.inner ≢ 0 → b ≡ false → InList tree r b
-    → Ends tree r allowance (Parsed.Refused UnterminatedGroup steps)
+    → Ends tree r allowance (Err (ParseError.Refused UnterminatedGroup steps))
 unfolding at_end list_innermost link
 ends_group {tree} {r} allowance steps e n eb l = record { says = λ s st c at. by s st c at s.frames refl (sym eb ∙ l.says s st) }
   where
     by : (s : State) → Stands tree r s → s.steps + r.left ≡ allowance → (at : ℕ) (fs : List Frame) → s.frames ≡ fs → false ≡ list_innermost s.frames
-        → EndSays allowance tree (at_end at fs s) (Parsed.Refused UnterminatedGroup steps)
+        → EndSays allowance tree (at_end at fs s) (Err (ParseError.Refused UnterminatedGroup steps))
     by s st c at [] is q = absurd (n (st.linked ∙ ap link is))
     by s st c at (group d i x ∷ outer) is q = (refl, omega (arith, e, c))
     by s st c at (list i x y j ∷ outer) is q = absurd (true≢false (sym (ap list_innermost is) ∙ sym q))
@@ -182,35 +181,26 @@ loop_starts kinds named allowance tree = record {
 }
 
 module _ {kinds : List ℕ} {named : List Bool} {allowance : ℕ} {tree₀ tree : List ℕ} {r : NamedReader} {at : ℕ} (lp : Loop kinds named allowance tree₀ tree r at) where
-  pub left_fits : r.left ≤ allowance
-  left_fits = omega (arith, lp.counted)
-
-  pub loop_held : Held tree r
-  loop_held = record { state = lp.state; stands = lp.stands }
-
-  pub loop_room : at < length kinds → length kinds ≤ most_tokens → numbers_per_token * length kinds ≤ length tree₀ → RoomFor tree r.nodes 2
-  loop_room h k w = record { room = omega (arith, lp.few, h, w, lp.long); small = omega (arith, lp.few, h, k) }
-
   -- What is due at the token.
   due : at < length kinds → named_reading named kinds ≡ go_on (take_token named (get_or kinds at 0) at lp.state) (λ s. read_on named (suc at) (drop (suc at) kinds) s)
   unfolding read_on
   due h = lp.is ∙ ap (λ (ks : List ℕ). read_on named at ks lp.state) (drop-cons kinds at 0 h)
 
-  module _ {after : List ℕ} {done : NamedStep} (h : at < length kinds) (d : Does tree r after done (take_token named (get_or kinds at 0) at)) where
+  module _ {after : List ℕ} {done : Result NamedReader Stop} (h : at < length kinds) (d : Does tree r after done (take_token named (get_or kinds at 0) at)) where
     abbrev came : Comes (lp.state.steps + r.left) after (take_token named (get_or kinds at 0) at lp.state) done
     came = d.says lp.state lp.stands
 
     -- On with the next token,
-    pub loop_on : {next : NamedReader} → done ≡ Code.On next → length after ≡ length tree → Loop kinds named allowance tree₀ after next (at + 1)
+    pub loop_on : {next : NamedReader} → done ≡ Ok next → length after ≡ length tree → Loop kinds named allowance tree₀ after next (at + 1)
     unfolding go_on
     loop_on {next} e long =
-        by (take_token named (get_or kinds at 0) at lp.state) refl (subst (λ (t : NamedStep). Comes (lp.state.steps + r.left) after (take_token named (get_or kinds at 0) at lp.state) t) e came)
+        by (take_token named (get_or kinds at 0) at lp.state) refl (subst (λ (t : Result NamedReader Stop). Comes (lp.state.steps + r.left) after (take_token named (get_or kinds at 0) at lp.state) t) e came)
       where
         by : (t : Step) → take_token named (get_or kinds at 0) at lp.state ≡ t
-            → Comes (lp.state.steps + r.left) after (take_token named (get_or kinds at 0) at lp.state) (Code.On next) → Loop kinds named allowance tree₀ after next (at + 1)
-        by (stops f m) q c = absurd (subst (λ (t : Step). Comes (lp.state.steps + r.left) after t (Code.On next)) q c)
+            → Comes (lp.state.steps + r.left) after (take_token named (get_or kinds at 0) at lp.state) (Ok next) → Loop kinds named allowance tree₀ after next (at + 1)
+        by (stops f m) q c = absurd (subst (λ (t : Step). Comes (lp.state.steps + r.left) after t (Ok next)) q c)
         by (on s) q c =
-            let told : Stands after next s × (s.steps + next.left ≡ lp.state.steps + r.left) = subst (λ (t : Step). Comes (lp.state.steps + r.left) after t (Code.On next)) q c in
+            let told : Stands after next s × (s.steps + next.left ≡ lp.state.steps + r.left) = subst (λ (t : Step). Comes (lp.state.steps + r.left) after t (Ok next)) q c in
             let grew : next.nodes ≤ r.nodes + 2 = subst (Grows r.nodes) e d.grown in
             let one : at + 1 ≡ suc at = omega arith in
             record {
@@ -224,46 +214,38 @@ module _ {kinds : List ℕ} {named : List Bool} {allowance : ℕ} {tree₀ tree 
             }
 
     -- a refusal, for which there were steps,
-    pub refused_fits : {e : TypeNameError} {left : ℕ} → done ≡ Code.Refused e left → left ≤ allowance
-    refused_fits {e} {left} q =
-        by (take_token named (get_or kinds at 0) at lp.state) (subst (λ (t : NamedStep). Comes (lp.state.steps + r.left) after (take_token named (get_or kinds at 0) at lp.state) t) q came)
-      where
-        by : (t : Step) → Comes (lp.state.steps + r.left) after t (Code.Refused e left) → left ≤ allowance
-        by (on s) c = absurd c
-        by (stops f m) c = omega (arith, c.1, lp.counted)
-
-    pub loop_refused : {e : TypeNameError} {left : ℕ} {tree' : List ℕ} (steps : ℕ) → done ≡ Code.Refused e left → steps ≡ allowance - left
-        → Parses kinds allowance (named_reading named kinds) (Parsed.Refused e steps) tree'
+    pub loop_refused : {e : TypeNameError} {left : ℕ} {tree' : List ℕ} (steps : ℕ) → done ≡ Err (Stop.Refused e left) → steps ≡ allowance - left
+        → Parses kinds allowance (named_reading named kinds) (Err (ParseError.Refused e steps)) tree'
     unfolding go_on
     loop_refused {e} {left} {tree'} steps q es =
-        by (take_token named (get_or kinds at 0) at lp.state) refl (subst (λ (t : NamedStep). Comes (lp.state.steps + r.left) after (take_token named (get_or kinds at 0) at lp.state) t) q came)
+        by (take_token named (get_or kinds at 0) at lp.state) refl (subst (λ (t : Result NamedReader Stop). Comes (lp.state.steps + r.left) after (take_token named (get_or kinds at 0) at lp.state) t) q came)
       where
         by : (t : Step) → take_token named (get_or kinds at 0) at lp.state ≡ t
-            → Comes (lp.state.steps + r.left) after (take_token named (get_or kinds at 0) at lp.state) (Code.Refused e left)
-            → Parses kinds allowance (named_reading named kinds) (Parsed.Refused e steps) tree'
-        by (on s) p c = absurd (subst (λ (t : Step). Comes (lp.state.steps + r.left) after t (Code.Refused e left)) p c)
+            → Comes (lp.state.steps + r.left) after (take_token named (get_or kinds at 0) at lp.state) (Err (Stop.Refused e left))
+            → Parses kinds allowance (named_reading named kinds) (Err (ParseError.Refused e steps)) tree'
+        by (on s) p c = absurd (subst (λ (t : Step). Comes (lp.state.steps + r.left) after t (Err (Stop.Refused e left))) p c)
         by (stops f m) p c =
-            let told : (f ≡ e) × (m + left ≡ lp.state.steps + r.left) = subst (λ (t : Step). Comes (lp.state.steps + r.left) after t (Code.Refused e left)) p c in
+            let told : (f ≡ e) × (m + left ≡ lp.state.steps + r.left) = subst (λ (t : Step). Comes (lp.state.steps + r.left) after t (Err (Stop.Refused e left))) p c in
             let same : steps ≡ m = omega (arith, es, told.1, lp.counted) in
             record { says = (omega (arith, es, lp.counted, told.1), inl (due h ∙ rw (p, told.0, same) refl)) }
 
     -- or no step is left.
-    pub loop_spent : {tree' : List ℕ} → done ≡ Code.Spent → Parses kinds allowance (named_reading named kinds) Parsed.AllowancePassed tree'
+    pub loop_spent : {tree' : List ℕ} → done ≡ Err Stop.Spent → Parses kinds allowance (named_reading named kinds) (Err ParseError.AllowancePassed) tree'
     unfolding go_on Allowance.steps
     loop_spent q =
-        record { says = by (take_token named (get_or kinds at 0) at lp.state) refl (subst (λ (t : NamedStep). Comes (lp.state.steps + r.left) after (take_token named (get_or kinds at 0) at lp.state) t) q came) }
+        record { says = by (take_token named (get_or kinds at 0) at lp.state) refl (subst (λ (t : Result NamedReader Stop). Comes (lp.state.steps + r.left) after (take_token named (get_or kinds at 0) at lp.state) t) q came) }
       where
         by : (t : Step) → take_token named (get_or kinds at 0) at lp.state ≡ t
-            → Comes (lp.state.steps + r.left) after (take_token named (get_or kinds at 0) at lp.state) Code.Spent → allowance < Allowance.steps (named_reading named kinds)
+            → Comes (lp.state.steps + r.left) after (take_token named (get_or kinds at 0) at lp.state) (Err Stop.Spent) → allowance < Allowance.steps (named_reading named kinds)
         by (on s) p c =
-            let told : lp.state.steps + r.left < s.steps = subst (λ (t : Step). Comes (lp.state.steps + r.left) after t Code.Spent) p c in
+            let told : lp.state.steps + r.left < s.steps = subst (λ (t : Step). Comes (lp.state.steps + r.left) after t (Err Stop.Spent)) p c in
             rw (due h, p) (omega (arith, told, lp.counted, (read_paced named (suc at) (drop (suc at) kinds) s).no_less))
         by (stops f m) p c =
-            let told : lp.state.steps + r.left < m = subst (λ (t : Step). Comes (lp.state.steps + r.left) after t Code.Spent) p c in
+            let told : lp.state.steps + r.left < m = subst (λ (t : Step). Comes (lp.state.steps + r.left) after t (Err Stop.Spent)) p c in
             rw (due h, p) (omega (arith, told, lp.counted))
 
   -- Every token has been taken.
-  pub loop_ends : {p : Parsed} → length kinds ≤ at → Ends tree r allowance p → Parses kinds allowance (named_reading named kinds) p tree
+  pub loop_ends : {p : Result Tree ParseError} → length kinds ≤ at → Ends tree r allowance p → Parses kinds allowance (named_reading named kinds) p tree
   unfolding read_on Allowance.steps at_end
   loop_ends {p} h d =
       let all : at ≡ length kinds = omega (arith, h, lp.inside) in
@@ -282,10 +264,10 @@ module _ {kinds : List ℕ} {named : List Bool} {allowance : ℕ} {tree₀ tree 
       whole at (group d i x ∷ outer) s e = tt
       whole at (list i x y j ∷ outer) s e = tt
 
-      end_says : (g : Got) (p : Parsed) → Whole g → Allowance.steps g ≤ allowance → EndSays allowance tree g p → ParseSays kinds allowance g p tree
-      end_says (got x at half m) (Parsed.Tree n k) w c q = record { nodes = x; is = rw (w.0, w.1, q.0) refl; allowed = omega (arith, c, q.0); counted = q.1; written = q.2 }
-      end_says (got x at half m) (Parsed.Refused e k) w c q = absurd q
-      end_says (got x at half m) Parsed.AllowancePassed w c q = absurd q
-      end_says (bad f m) (Parsed.Tree n k) w c q = absurd q
-      end_says (bad f m) (Parsed.Refused e k) w c q = (omega (arith, c, q.1), inl (rw (q.0, q.1) refl))
-      end_says (bad f m) Parsed.AllowancePassed w c q = absurd q
+      end_says : (g : Got) (p : Result Tree ParseError) → Whole g → Allowance.steps g ≤ allowance → EndSays allowance tree g p → ParseSays kinds allowance g p tree
+      end_says (got x at half m) (Ok t) w c q = record { nodes = x; is = rw (w.0, w.1, q.0) refl; allowed = omega (arith, c, q.0); counted = q.1; written = q.2 }
+      end_says (got x at half m) (Err (ParseError.Refused e k)) w c q = absurd q
+      end_says (got x at half m) (Err ParseError.AllowancePassed) w c q = absurd q
+      end_says (bad f m) (Ok t) w c q = absurd q
+      end_says (bad f m) (Err (ParseError.Refused e k)) w c q = (omega (arith, c, q.1), inl (rw (q.0, q.1) refl))
+      end_says (bad f m) (Err ParseError.AllowancePassed) w c q = absurd q

@@ -2,7 +2,7 @@
 -- derivations holds of its trees.
 -- Assumes nothing.
 use Prim.Native.Nat.{ℕ, suc, ◌+◌, ◌-◌, ◌≤◌, ◌<◌}
-use Rattle.std.specs.Prelude.{◌≡◌, ◌≢◌, Bool, ◌&&◌, length, get_or, drop, T, ltb, eqb}
+use Rattle.std.specs.Prelude.{◌≡◌, ◌≢◌, Bool, ◌&&◌, length, get_or, drop, T, ltb, eqb, Some}
 use Rattle.std.proofs.Math.Path.{refl, ap, subst}
 use Rattle.std.proofs.Common.{sym, ◌∙◌, length-drop, drop-cons, ltb→lt}
 use Rattle.std.proofs.Math.Bool.{false}
@@ -15,7 +15,6 @@ use Rattle.rows.specs.Kinds.{LeftParen, RightParen, LeftBracket, RightBracket, C
 use Rattle.rows.specs.Laws.Tests.{by_if}
 use Rattle.rows.specs.declared.answer.Delimiter.{Delimiter}
 use Rattle.rows.specs.declared.answer.Delimiter.TheVariants.{Parenthesis, Bracket}
-use Rattle.rows.specs.declared.answer.Open.TheVariants.{Opened}
 use Rattle.prescan.specs.Matcher.{Role, role, same}
 use Rattle.reader.specs.Nodes.{NodeKind, t_node, l_node, a_node, Nodes, none, node}
 use Rattle.reader.specs.Reading.{Region, top, round, square, argument, list, Got, got, bad, kind_at, MAX_NESTING_DEPTH}
@@ -68,12 +67,12 @@ first_of row at k ks e =
 -- ---- the rest of what is open
 
 -- There is a node.
-abbrev pub Some : Nodes → Type 0
-Some none = ⊥
-Some (node k i b x) = Unit {0}
+abbrev pub SomeNode : Nodes → Type 0
+SomeNode none = ⊥
+SomeNode (node k i b x) = Unit {0}
 
 opens_by : (d : Delimiter) (o c : ℕ) → Type 0
-opens_by d o c = Opens (node_of d) (region_of (Opened d)) o c
+opens_by d o c = Opens (node_of d) (region_of (Some d)) o c
 
 module _ (row : List ℕ) where
   -- What remains of a list behind one of its arguments: it is closed, or more arguments follow.
@@ -85,10 +84,10 @@ module _ (row : List ℕ) where
   pub data Rest : List Frame → (nodes : Nodes) (a : ℕ) (h : Bool) → (x : Nodes) → Type 0 where
     rest_top : {b y x : Nodes} {a a' : ℕ} {h h' : Bool} → Derivation row no_lists top 0 0 a h y a' h' → b then y ≡ x → Rest [] b a h x
     rest_group : {d : Delimiter} {i : ℕ} {b before y x : Nodes} {outer : List Frame} {a a₁ : ℕ} {h h₁ : Bool}
-        → Derivation row no_lists (region_of (Opened d)) 0 (suc (length outer)) a h y a₁ h₁ → Rest outer (push (node_of d) i (b then y) before) a₁ h₁ x
+        → Derivation row no_lists (region_of (Some d)) 0 (suc (length outer)) a h y a₁ h₁ → Rest outer (push (node_of d) i (b then y) before) a₁ h₁ x
         → Rest (Named.group d i before ∷ outer) b a h x
     rest_list : {i j : ℕ} {b before arguments y z x : Nodes} {outer : List Frame} {a a₁ a₂ : ℕ} {h h₁ h₂ : Bool}
-        → Derivation row no_lists argument (suc (lists_here outer)) (suc (length outer)) a h y a₁ h₁ → Some (b then y)
+        → Derivation row no_lists argument (suc (lists_here outer)) (suc (length outer)) a h y a₁ h₁ → SomeNode (b then y)
         → Remains (suc (lists_here outer)) (suc (length outer)) a₁ h₁ z a₂ h₂
         → Rest outer (push l_node i (arguments then node a_node j (b then y) z) before) a₂ h₂ x
         → Rest (Named.list i before arguments j ∷ outer) b a h x
@@ -105,7 +104,7 @@ module _ (row : List ℕ) where
         rest_group (a_token tt p r) (subst (λ (z : Nodes). Rest outer (push (node_of Bracket) i z before) a₁ h₁ x) (push_then t_node a none b y) s)
     plain_back {b = b} {a = a} p (rest_list {i = i} {j = j} {before = before} {arguments = arguments} {y = y} {z = z} {outer = outer} {a₂ = a₂} {h₂ = h₂} r q m s) =
         let e = push_then t_node a none b y in
-        rest_list (a_token tt p r) (subst Some e q) m (subst (λ (w : Nodes). Rest outer (push l_node i (arguments then node a_node j w z) before) a₂ h₂ x) e s)
+        rest_list (a_token tt p r) (subst SomeNode e q) m (subst (λ (w : Nodes). Rest outer (push l_node i (arguments then node a_node j w z) before) a₂ h₂ x) e s)
 
     -- A node with others below it, whose closer has been taken.
     Onto : (k : NodeKind) (below : Nodes) (fs : List Frame) (a a₁ : ℕ) (h₁ : Bool) → Type 0
@@ -121,15 +120,15 @@ module _ (row : List ℕ) where
         rest_group (f square tt _ _ _ r) (subst (λ (z : Nodes). Rest outer (push (node_of Bracket) i z before) a₂ h₂ x) (push_then k a below b y) s)
     node_back {b = b} below k {a} a₁ h₁ f (rest_list {i = i} {j = j} {before = before} {arguments = arguments} {y = y} {z = z} {outer = outer} {a₂ = a₂} {h₂ = h₂} r q m s) =
         let e = push_then k a below b y in
-        rest_list (f argument tt _ _ _ r) (subst Some e q) m (subst (λ (w : Nodes). Rest outer (push l_node i (arguments then node a_node j w z) before) a₂ h₂ x) e s)
+        rest_list (f argument tt _ _ _ r) (subst SomeNode e q) m (subst (λ (w : Nodes). Rest outer (push l_node i (arguments then node a_node j w z) before) a₂ h₂ x) e s)
 
-    group_back : {fs : List Frame} {b : Nodes} {a : ℕ} (d : Delimiter) {o c : ℕ} → Opens (node_of d) (region_of (Opened d)) o c → kind_at row a ≡ o → length fs < MAX_NESTING_DEPTH
+    group_back : {fs : List Frame} {b : Nodes} {a : ℕ} (d : Delimiter) {o c : ℕ} → Opens (node_of d) (region_of (Some d)) o c → kind_at row a ≡ o → length fs < MAX_NESTING_DEPTH
         → Rest (Named.group d a b ∷ fs) none (suc a) false x → Rest fs b a false x
     unfolding ◌then◌ Onto
     group_back {fs} {b} {a} d op e lim (rest_group {y = y} {a₁ = a₁} {h₁ = h₁} r s) = node_back y (node_of d) a₁ h₁ (λ l t z a₂ h₂ r₁. a_group t lim op e r r₁) s
 
     -- The arguments of a list, from its first on.
-    arguments_derived : {d n a a₁ a₂ : ℕ} {h₁ h₂ : Bool} (y : Nodes) {z : Nodes} → Derivation row no_lists argument d n a false y a₁ h₁ → Some y → Remains d n a₁ h₁ z a₂ h₂
+    arguments_derived : {d n a a₁ a₂ : ℕ} {h₁ h₂ : Bool} (y : Nodes) {z : Nodes} → Derivation row no_lists argument d n a false y a₁ h₁ → SomeNode y → Remains d n a₁ h₁ z a₂ h₂
         → Derivation row no_lists list d n a false (node a_node a y z) a₂ h₂
     arguments_derived none r q m = absurd q
     arguments_derived (node k i b y) r q (no_more c) = last r c
@@ -141,23 +140,23 @@ module _ (row : List ℕ) where
         node_back (node a_node (suc a) y z) l_node a₂ h₂ (λ l t w a₃ h₃ r₁. a_list t lim e (arguments_derived y r q m) r₁) s
 
     -- An argument has ended.
-    argument_back : {i j a a₂ : ℕ} {b before arguments : Nodes} {outer : List Frame} {h h₂ : Bool} → Some b → Stops row (suc (lists_here outer)) a h → Closes row (suc (lists_here outer)) a h a₂ h₂
+    argument_back : {i j a a₂ : ℕ} {b before arguments : Nodes} {outer : List Frame} {h h₂ : Bool} → SomeNode b → Stops row (suc (lists_here outer)) a h → Closes row (suc (lists_here outer)) a h a₂ h₂
         → Rest outer (push l_node i (push a_node j b arguments) before) a₂ h₂ x → Rest (Named.list i before arguments j ∷ outer) b a h x
     argument_back {i} {j} {a} {a₂} {b} {before} {arguments} {outer} {h} {h₂} q t c s =
         let e = then_none b in
-        rest_list (end_argument t) (subst Some (sym e) q) (no_more c)
+        rest_list (end_argument t) (subst SomeNode (sym e) q) (no_more c)
         (subst (λ (w : Nodes). Rest outer (push l_node i w before) a₂ h₂ x) (push_is a_node j b arguments ∙ ap (λ (w : Nodes). arguments then node a_node j w none) (sym e)) s)
 
-    comma_back : {i j a : ℕ} {b before arguments : Nodes} {outer : List Frame} → Some b → kind_at row a ≡ Comma
+    comma_back : {i j a : ℕ} {b before arguments : Nodes} {outer : List Frame} → SomeNode b → kind_at row a ≡ Comma
         → Rest (Named.list i before (push a_node j b arguments) (suc a) ∷ outer) none (suc a) false x → Rest (Named.list i before arguments j ∷ outer) b a false x
     unfolding ◌then◌
     comma_back {i} {j} {a} {b} {before} {arguments} {outer} q c (rest_list {y = y} {z = z} {a₂ = a₂} {h₂ = h₂} r p m s) =
         let e = then_none b in
-        rest_list (end_argument (at_comma c)) (subst Some (sym e) q) (one_more c (arguments_derived y r p m))
+        rest_list (end_argument (at_comma c)) (subst SomeNode (sym e) q) (one_more c (arguments_derived y r p m))
         (subst (λ (w : Nodes). Rest outer (push l_node i w before) a₂ h₂ x)
         (push_then a_node j b arguments (node a_node (suc a) y z) ∙ ap (λ (w : Nodes). arguments then node a_node j w (node a_node (suc a) y z)) (sym e)) s)
 
-    shut_back : {d : Delimiter} {i a : ℕ} {b before : Nodes} {outer : List Frame} {o c : ℕ} → Opens (node_of d) (region_of (Opened d)) o c → kind_at row a ≡ c
+    shut_back : {d : Delimiter} {i a : ℕ} {b before : Nodes} {outer : List Frame} {o c : ℕ} → Opens (node_of d) (region_of (Some d)) o c → kind_at row a ≡ c
         → Rest outer (push (node_of d) i b before) (suc a) false x → Rest (Named.group d i before ∷ outer) b a false x
     shut_back {d} {i} {a} {b} {before} {outer} op e s =
         rest_group (end_group op e) (subst (λ (w : Nodes). Rest outer (push (node_of d) i w before) (suc a) false x) (sym (then_none b)) s)
@@ -174,7 +173,7 @@ module _ (row : List ℕ) where
     unfolding plain
     plain_backs s p x r = plain_back x p r
 
-    group_backs : (d : Delimiter) {o c : ℕ} (s : State) → Opens (node_of d) (region_of (Opened d)) o c → kind_at row at ≡ o
+    group_backs : (d : Delimiter) {o c : ℕ} (s : State) → Opens (node_of d) (region_of (Some d)) o c → kind_at row at ≡ o
         → Backs s.frames s.nodes (begin (Named.group d at s.nodes) s)
     unfolding begin
     group_backs d s op e =
@@ -187,7 +186,7 @@ module _ (row : List ℕ) where
         by_if (Backs s.frames s.nodes) (ltb (length s.frames) MAX_NESTING_DEPTH)
         (λ t x r. list_back x e (ltb→lt (length s.frames) MAX_NESTING_DEPTH t) r) (λ _. tt)
 
-    unless_backs : (fs : List Frame) (b : Nodes) (m : ℕ) (t : Step) → (Some b → Backs fs b t) → Backs fs b (unless_empty b m t)
+    unless_backs : (fs : List Frame) (b : Nodes) (m : ℕ) (t : Step) → (SomeNode b → Backs fs b t) → Backs fs b (unless_empty b m t)
     unfolding unless_empty
     unless_backs fs none m t f = tt
     unless_backs fs (node k i b x) m t f = f tt
@@ -199,7 +198,7 @@ module _ (row : List ℕ) where
     greater_backs (Named.list i x y j ∷ outer) s is e =
         unless_backs (Named.list i x y j ∷ outer) s.nodes s.steps (on (closed i x y j outer s)) (λ q z r. argument_back z q (at_one e) (by_one e) r)
 
-    second_backs : (i : ℕ) (x y : Nodes) (j : ℕ) (outer : List Frame) (s : State) → kind_at row at ≡ ShiftRight → Some s.nodes
+    second_backs : (i : ℕ) (x y : Nodes) (j : ℕ) (outer : List Frame) (s : State) → kind_at row at ≡ ShiftRight → SomeNode s.nodes
         → Backs (Named.list i x y j ∷ outer) s.nodes (second_half outer (closed i x y j outer s))
     unfolding second_half closed lists_here push
     second_backs i x y j [] s e q = tt
@@ -209,7 +208,7 @@ module _ (row : List ℕ) where
         argument_back z q (at_two e two) (by_two e two)
         (argument_back z (some_push l_node i (push a_node j s.nodes y) x) at_half by_half r)
       where
-        some_push : (k : NodeKind) (i : ℕ) (b x : Nodes) → Some (push k i b x)
+        some_push : (k : NodeKind) (i : ℕ) (b x : Nodes) → SomeNode (push k i b x)
         some_push k i b none = tt
         some_push k i b (node k' i' b' x) = tt
 
@@ -235,12 +234,12 @@ module _ (row : List ℕ) where
     same_is Bracket Parenthesis t = absurd t
     same_is Bracket Bracket t = refl
 
-    closer_backs : (d : Delimiter) {o c : ℕ} → Opens (node_of d) (region_of (Opened d)) o c → kind_at row at ≡ c → (fs : List Frame) (s : State) → Backs fs s.nodes (at_closer d fs s)
+    closer_backs : (d : Delimiter) {o c : ℕ} → Opens (node_of d) (region_of (Some d)) o c → kind_at row at ≡ c → (fs : List Frame) (s : State) → Backs fs s.nodes (at_closer d fs s)
     unfolding at_closer
     closer_backs d op e [] s = tt
     closer_backs d {o} {c} op e (Named.group d' i x ∷ outer) s =
         by_if (Backs (Named.group d' i x ∷ outer) s.nodes) (same d' d)
-        (λ t z r. shut_back z {o = o} {c = c} (subst (λ (f : Delimiter). Opens (node_of f) (region_of (Opened f)) o c) (sym (same_is d' d t)) op) e r) (λ _. tt)
+        (λ t z r. shut_back z {o = o} {c = c} (subst (λ (f : Delimiter). Opens (node_of f) (region_of (Some f)) o c) (sym (same_is d' d t)) op) e r) (λ _. tt)
     closer_backs d op e (Named.list i x y j ∷ outer) s = tt
 
     module _ (named : List Bool) (k : ℕ) (e : kind_at row at ≡ k) (s : State) where

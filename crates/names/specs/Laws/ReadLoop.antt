@@ -1,5 +1,5 @@
 -- The name list record by record: what the loop of `read_names` keeps. Assumes nothing.
-use Rattle.std.specs.Prelude.{ℕ, suc, ◌+◌, ◌*◌, ◌-◌, ◌≤◌, ◌<◌, ◌≡◌, ◌≢◌, Bool, false, ◌&&◌, length, leb}
+use Rattle.std.specs.Prelude.{ℕ, zero, suc, eqb, not, ◌+◌, ◌*◌, ◌-◌, ◌^◌, ◌≤◌, ◌<◌, ◌≡◌, ◌≢◌, Bool, false, ◌&&◌, length, leb, None}
 use Rattle.std.proofs.Math.Path.{refl, ap, subst}
 use Rattle.std.proofs.Common.{sym, ◌∙◌, le-leb, ne_eqb}
 use Rattle.std.proofs.Math.Bool.{true}
@@ -9,17 +9,16 @@ use Rattle.std.proofs.lemmas.Bool.{lt-leb}
 use Rattle.std.proofs.Math.ListN.{length-append, length-map}
 use Rattle.rows.specs.Kinds.{Identifier}
 use Rattle.rows.specs.Format.{format, token_length, longest_word}
-use Rattle.rows.specs.Records.{RowToken, Tokens, tokens, before_tokens, Row, found, word_at, tokens_from, to_end, records_from}
+use Rattle.rows.specs.Records.{RowToken, Tokens, tokens, before_tokens, Row, found, word_at, tokens_from, to_end, records_from, formed}
 use Rattle.rows.specs.Records as Records
 use Rattle.rows.specs.Laws.Tests.{by_if, and_false}
 use Rattle.rows.specs.Laws.Tokens.{formed_fits, word_there}
 use Rattle.rows.specs.Laws.RowLoop.{ends, begins_malformed, begins_token}
 use Rattle.rows.specs.Laws.RowFacts.{token_there}
-use Rattle.rows.specs.declared.token.TokenRecord.TheVariants.{Formed, Malformed}
 use Rattle.names.specs.NameList.{most_names, is_name, distinct, all_words, words_in, NameList, malformed, names_of, names_in, name_list}
-use Rattle.names.specs.NamesSay.{word_of, Table, Clear, SomeNames, Added, Adds, NamesListed}
+use Rattle.names.specs.NamesSay.{word_of, Table, SomeRecord, SomeTable, Added, Adds, NamesListed, ReadsNames}
 use Rattle.names.specs.Laws.Names.{twice, one_more_apart, one_word_more, other_record}
-use Rattle.names.specs.Laws.Tables.{no_table}
+use Rattle.names.specs.Laws.Tables.{empty_table}
 use Rattle.names.specs.Laws.Records.{formed_sized}
 
 -- The greatest length of a record.
@@ -67,7 +66,7 @@ module _ (file : List ℕ) where
   stopped ts t (tokens us next) h = by_if (λ (x : Row). names_in x ≡ malformed) (leb (length file) next) (λ _. h us) (λ _. refl)
 
   -- The names so far are distinct and in the table.
-  pub record NamesLoop (heads₀ links₀ places₀ heads links places : List ℕ) (at count : ℕ) : Type 0 where
+  pub record NamesLoop (heads links places : List ℕ) (at count : ℕ) : Type 0 where
     pub so_far : List RowToken
     pub counted : length so_far ≡ count
     pub few : count ≤ most_names
@@ -76,41 +75,28 @@ module _ (file : List ℕ) where
     pub apart : distinct (words_in so_far) ≡ true
     pub table : Table file (words_in so_far) heads links places
     pub is : tokens_from format file most_names 0 ≡ after so_far (tokens_from format file (most_names - count) at)
-    pub heads_kept : length heads ≡ length heads₀
-    pub links_kept : length links ≡ length links₀
-    pub places_kept : length places ≡ length places₀
 
-  pub names_begin : (heads links places : List ℕ) → Clear heads links places → NamesLoop heads links places heads links places 0 0
+  pub names_begin : {heads links places : List ℕ} {count : ℕ} → SomeTable file count heads links places → count ≡ 0 → NamesLoop heads links places 0 count
   unfolding all_words distinct words_in
-  names_begin heads links places c =
+  names_begin s e =
       record {
         so_far = [];
-        counted = refl;
-        few = omega arith;
+        counted = sym e;
+        few = omega (arith, e);
         offset = omega arith;
         all = refl;
         apart = refl;
-        table = no_table file heads links places c;
-        is = after_none (tokens_from format file most_names 0);
-        heads_kept = refl;
-        links_kept = refl;
-        places_kept = refl;
+        table = empty_table s e;
+        is = rw e (after_none (tokens_from format file most_names 0));
       }
 
-  module _ {heads₀ links₀ places₀ heads links places : List ℕ} {at count : ℕ} (l : NamesLoop heads₀ links₀ places₀ heads links places at count) where
+  module _ {heads links places : List ℕ} {at count : ℕ} (l : NamesLoop heads links places at count) where
     words_counted : length (words_in l.so_far) ≡ count
     unfolding words_in
     words_counted = length-map l.so_far (λ (t : RowToken). t.word) ∙ l.counted
 
-    pub some_names : count ≢ most_names → {k n : ℕ} → found format file at ≡ Formed k n → SomeNames file at count heads links places
-    some_names d {k} {n} e = record {
-      names = words_in l.so_far;
-      table = l.table;
-      counted = words_counted;
-      room = omega (arith, l.few, d);
-      there = record { kind = k; size = n; is = e };
-      offset_fits = omega (arith, l.offset, l.few);
-    }
+    pub record_there : count ≢ most_names → {k n : ℕ} → found format file at ≡ formed k n → (count < most_names) × SomeRecord file at × (at < 2 ^ 32)
+    record_there d {k} {n} e = (omega (arith, l.few, d), record { kind = k; size = n; is = e }, omega (arith, l.offset, l.few))
 
     -- ---- behind the last record
 
@@ -141,17 +127,25 @@ module _ (file : List ℕ) where
       table = l.table;
     }
 
+    -- A list of no names is malformed.
+    pub names_told : length file ≤ at → ReadsNames file (not (eqb count 0)) count heads links places
+    names_told p = by count refl
+      where
+        by : (n : ℕ) → count ≡ n → ReadsNames file (not (eqb n 0)) count heads links places
+        by zero e = record { told = names_empty p e }
+        by (suc n) e = rw (ne_eqb (suc n) 0 (omega arith)) (record { told = names_end p (omega (arith, e)) })
+
     -- ---- at a record
 
     module _ (p : at < length file) (d : count ≢ most_names) where
       more : most_names - count ≡ suc (most_names - (count + 1))
       more = omega (arith, l.few, d)
 
-      pub names_malformed : found format file at ≡ Malformed → name_list file ≡ malformed
+      pub names_malformed : found format file at ≡ None → name_list file ≡ malformed
       unfolding name_list records_from to_end names_in after
       names_malformed e = ap told (l.is ∙ ap (λ (n : ℕ). after l.so_far (tokens_from format file n at)) more ∙ ap (after l.so_far) (begins_malformed format file (most_names - (count + 1)) at p e))
 
-      module _ {k n : ℕ} (e : found format file at ≡ Formed k n) where
+      module _ {k n : ℕ} (e : found format file at ≡ formed k n) where
         abbrev t : RowToken
         t = token_there format file at k
 
@@ -182,10 +176,9 @@ module _ (file : List ℕ) where
         names_further = let fit = formed_fits format file at k n e in (omega (arith, fit.long), fit.inside)
 
         pub names_again : k ≡ Identifier → {heads' links' places' : List ℕ} {b : Bool} → b ≡ true → Adds file at count heads links places b heads' links' places'
-            → length heads' ≡ length heads → length links' ≡ length links → length places' ≡ length places
-            → NamesLoop heads₀ links₀ places₀ heads' links' places' (at + n) (count + 1)
+            → NamesLoop heads' links' places' (at + n) (count + 1)
         unfolding words_in
-        names_again i {heads'} {links'} {places'} q a he li pl =
+        names_again i {heads'} {links'} {places'} q a =
             let added : Added file at (words_in l.so_far) true heads' links' places' =
             subst (λ (b : Bool). Added file at (words_in l.so_far) b heads' links' places') q (a.says (words_in l.so_far) words_counted l.table) in
             let now : words_in (l.so_far ++ (t ∷ [])) ≡ words_in l.so_far ++ (word_of file at ∷ []) = word_more l.so_far t [] ∙ ap (λ (w : List ℕ). words_in l.so_far ++ (w ∷ [])) (sym word_same) in
@@ -198,7 +191,4 @@ module _ (file : List ℕ) where
               apart = ap distinct now ∙ one_more_apart (words_in l.so_far) (word_of file at) l.apart added.0;
               table = subst (λ (ns : List (List ℕ)). Table file ns heads' links' places') (sym now) added.1;
               is = opened ∙ after_token l.so_far t rest;
-              heads_kept = he ∙ l.heads_kept;
-              links_kept = li ∙ l.links_kept;
-              places_kept = pl ∙ l.places_kept;
             }

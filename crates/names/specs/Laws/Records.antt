@@ -1,6 +1,6 @@
 -- How long a token record is, and that the names of a list have bytes. Assumes nothing.
 use Prim.Native.Nat.{ℕ, zero, suc, ◌+◌, ◌-◌, ◌≤◌, ◌<◌}
-use Rattle.std.specs.Prelude.{◌≡◌, ◌≢◌, Bool, ◌&&◌, take, drop, ltb, eqb, if◌then◌else◌}
+use Rattle.std.specs.Prelude.{◌≡◌, ◌≢◌, Bool, ◌&&◌, take, drop, ltb, eqb, if◌then◌else◌, None}
 use Rattle.std.proofs.Math.Path.{refl, sym, subst}
 use Rattle.std.proofs.Common.{◌∙◌, arith, length-take, length-drop}
 use Rattle.std.proofs.Math.Bool.{true, false}
@@ -10,7 +10,7 @@ use Rattle.std.proofs.Math.Dec.{T, leb, leb→le, ltb→lt, eqb→eq}
 use Rattle.std.proofs.Math.Facts.{and_yes, eqb_no}
 use Rattle.rows.specs.Kinds.{Identifier, End}
 use Rattle.rows.specs.Format.{format, short_bytes, token_length, longest_word}
-use Rattle.rows.specs.Records.{little_endian, RowToken, Tokens, tokens, before_tokens, Row, found, word_at, length_at, kind_at, span_start_at, span_end_at, length_fits, word_fits, in_range, well_formed, tokens_from, to_end, records_from}
+use Rattle.rows.specs.Records.{little_endian, RowToken, Tokens, tokens, before_tokens, Row, found, word_at, length_at, kind_at, span_start_at, span_end_at, length_fits, word_fits, in_range, well_formed, tokens_from, to_end, records_from, formed}
 use Rattle.rows.specs.Records as Records
 use Rattle.rows.specs.Words.{same_exactly}
 use Rattle.rows.specs.Laws.Tests.{by_if}
@@ -18,7 +18,6 @@ use Rattle.rows.specs.Laws.Tokens.{formed_fits, word_part, word_there}
 use Rattle.rows.specs.Laws.RowFacts.{Kept, tokens_kept, token_there}
 use Rattle.rows.specs.Laws.KnownSearch.{lengths_differ}
 use Rattle.rows.specs.declared.format.Format.{Format}
-use Rattle.rows.specs.declared.token.TokenRecord.TheVariants.{Formed, Malformed}
 use Rattle.names.specs.NameList.{most_names, is_name, all_words, distinct, words_in, NameList, listed, malformed, names_of, names_in, name_list}
 use Rattle.names.specs.NamesSay.{name, word_of, SomeRecord}
 use Rattle.names.specs.Laws.Same.{both}
@@ -42,11 +41,11 @@ module _ (f : Format) (file : List ℕ) (at : ℕ) where
       record { short = leb→le (length_at f file at) (token_length f + longest_word) w.1; worded = λ _. ltb→lt (token_length f) (length_at f file at) w.0 })
       (λ no t. record { short = omega (arith, eqb→eq (length_at f file at) (token_length f) t); worded = λ e. absurd (eqb_no no e) })
 
-  is_formed : (b : Bool) (k n : ℕ) {k' n' : ℕ} → (if b then Formed k n else Malformed) ≡ Formed k' n' → T b
+  is_formed : (b : Bool) (k n : ℕ) {k' n' : ℕ} → (if b then formed k n else None) ≡ formed k' n' → T b
   is_formed true k n e = tt
   is_formed false k n e = let z : ◌≡◌ {A = ℕ} 0 1 = cc in absurd (omega (arith, z))
 
-  pub formed_sized : (k n : ℕ) → found f file at ≡ Formed k n → Sized f k n
+  pub formed_sized : (k n : ℕ) → found f file at ≡ formed k n → Sized f k n
   unfolding found well_formed
   formed_sized k n e =
       let fit = formed_fits f file at k n e in
@@ -88,7 +87,7 @@ WordedTokens n (Records.malformed offset) = Unit {0}
 WordedTokens n (tokens ts next) = Worded ts
 
 module _ (file : List ℕ) where
-  some_bytes : (at k n : ℕ) → found format file at ≡ Formed k n → k ≡ Identifier → length (word_at format file at) ≢ 0
+  some_bytes : (at k n : ℕ) → found format file at ≡ formed k n → k ≡ Identifier → length (word_at format file at) ≢ 0
   unfolding word_at
   some_bytes at k n e i =
       let fit = formed_fits format file at k n e in
@@ -99,7 +98,7 @@ module _ (file : List ℕ) where
   unfolding before_tokens
   worded_kept = record { of_none = λ n at. tt; of_malformed = λ n at l. tt; of_token = before }
     where
-      before : (n at k size : ℕ) → found format file at ≡ Formed k size → (r : Tokens) → WordedTokens n r → WordedTokens (suc n) (before_tokens (token_there format file at k) r)
+      before : (n at k size : ℕ) → found format file at ≡ formed k size → (r : Tokens) → WordedTokens n r → WordedTokens (suc n) (before_tokens (token_there format file at k) r)
       before n at k size e (Records.malformed offset) p = tt
       before n at k size e (tokens ts next) p = (some_bytes at k size e, p)
 

@@ -1,12 +1,12 @@
 -- The table of names: empty, with one name more, and a word looked for in it. Assumes nothing.
-use Rattle.std.specs.Prelude.{ℕ, ◌+◌, ◌-◌, ◌≤◌, ◌<◌, ◌≡◌, ◌≢◌, Bool, true, false, List, [], ◌∷◌, ◌++◌, length, get_or, set}
+use Rattle.std.specs.Prelude.{ℕ, ◌+◌, ◌-◌, ◌≤◌, ◌<◌, ◌≡◌, ◌≢◌, refl, Bool, true, false, List, [], ◌∷◌, ◌++◌, length, get_or, set}
 use Rattle.std.proofs.Common.{sym, ap, subst, ◌∙◌, arith, lt_of_not-le, length-set, length-append, get_or-set_same, get_or-set_other}
 use Rattle.std.proofs.Math.Decide.{dec_le, ℕ_discrete}
 use Rattle.std.proofs.lemmas.List.{length-replicate, get_or-replicate, get_or_at}
 use Rattle.std.proofs.Math.ListN.{get_or-append}
 use Rattle.rows.specs.Words.{same_exactly}
 use Rattle.names.specs.NameList.{most_names}
-use Rattle.names.specs.NamesSay.{buckets, bucket_of, name, word_of, SomeRecord, Newest, Linked, Table, Clear, SomeChain, LooksInChain, SomeTable, Looks, SomeNames, Adds}
+use Rattle.names.specs.NamesSay.{buckets, bucket_of, name, word_of, SomeRecord, Newest, Linked, Table, Clear, SomeChain, LooksInChain, SomeTable, Looks, Adds}
 use Rattle.names.specs.Laws.Same.{otherwise, same_equal}
 use Rattle.names.specs.Laws.Names.{name_there, name_nowhere}
 
@@ -29,6 +29,17 @@ no_table file heads links places c =
           rw (c.no_heads, get_or-replicate {A = ℕ} buckets b 0 0 p)
           (record { below = omega arith; in_bucket = λ q. absurd (omega arith); none_newer = λ j q r. absurd (omega arith) });
     }
+
+-- Heads of no names, with this room, are the table of no names.
+pub some_table : {file heads links places : List ℕ} → Clear heads links places → SomeTable file 0 heads links places
+some_table c = record { names = []; table = no_table _ _ _ _ c; counted = refl }
+
+pub empty_table : {file heads links places : List ℕ} {count : ℕ} → SomeTable file count heads links places → count ≡ 0 → Table file [] heads links places
+empty_table {file} {heads} {links} {places} s e = by s.names (s.counted ∙ e) s.table
+  where
+    by : (ns : List (List ℕ)) → length ns ≡ 0 → Table file ns heads links places → Table file [] heads links places
+    by [] q t = t
+    by (n ∷ ns) q t = absurd (omega (arith, q))
 
 -- ---- one name more
 
@@ -139,6 +150,38 @@ module _ {file : List ℕ} {ns : List (List ℕ)} {heads links places : List ℕ
     headed = headed_then;
   }
 
+-- What stands behind the last name's place and link is free.
+module _ {file : List ℕ} {ns : List (List ℕ)} {heads links places : List ℕ} (t : Table file ns heads links places) (count x : ℕ) (counted : length ns ≡ count) where
+  pub place_free : Table file ns heads links (set places count x)
+  place_free = record {
+    linked =
+        record {
+          few = t.linked.few;
+          for_links = t.linked.for_links;
+          for_places = rw (length-set places count x) t.linked.for_places;
+          recorded = λ i p. rw (get_or-set_other places count i x 0 (λ c. absurd (omega (arith, c, p, counted)))) (t.linked.recorded i p);
+          placed = λ i p. rw (get_or-set_other places count i x 0 (λ c. absurd (omega (arith, c, p, counted)))) (t.linked.placed i p);
+          linked = t.linked.linked;
+        };
+    for_heads = t.for_heads;
+    headed = t.headed;
+  }
+
+  pub link_free : Table file ns heads (set links count x) places
+  link_free = record {
+    linked =
+        record {
+          few = t.linked.few;
+          for_links = rw (length-set links count x) t.linked.for_links;
+          for_places = t.linked.for_places;
+          recorded = t.linked.recorded;
+          placed = t.linked.placed;
+          linked = λ i p. rw (get_or-set_other links count i x 0 (λ c. absurd (omega (arith, c, p, counted)))) (t.linked.linked i p);
+        };
+    for_heads = t.for_heads;
+    headed = t.headed;
+  }
+
 -- ---- a word looked for
 
 -- None of the names from number `entry` on is the word, and the one before it is in its bucket.
@@ -210,20 +253,30 @@ module _ {file heads links places : List ℕ} (word : List ℕ) {bucket first : 
   chain_newest : {ns : List (List ℕ)} → Table file ns heads links places → Newest ns (bucket_of word) (length ns) first
   chain_newest t = rw (is_first, ← is_bucket) (t.headed bucket small)
 
-  pub some_chain : SomeTable file heads links places → SomeChain file links places first word
+  pub some_chain : {count : ℕ} → SomeTable file count heads links places → SomeChain file links places first word
   some_chain s = record { names = s.names; linked = s.table.linked; newest = chain_newest s.table }
 
   pub looks : {r : Bool} → LooksInChain file links places first word r → Looks file heads links places word r
   looks h = record { says = λ ns t. h.says ns t.linked (chain_newest t) }
 
-module _ {file heads links places : List ℕ} {at count : ℕ} (s : SomeNames file at count heads links places) where
-  pub table_there : SomeTable file heads links places
-  table_there = record { names = s.names; table = s.table }
+module _ {file heads links places : List ℕ} {at count : ℕ} {r : Bool} (h : Looks file heads links places (word_of file at) r) where
+  pub adds_none : {heads' links' places' : List ℕ} → r ≡ true → Adds file at count heads links places false heads' links' places'
+  adds_none e = record { says = λ ns c t. sym (h.says ns t) ∙ e }
 
-  module _ {r : Bool} (h : Looks file heads links places (word_of file at) r) where
-    pub adds_none : {heads' links' places' : List ℕ} → r ≡ true → Adds file at count heads links places false heads' links' places'
-    adds_none e = record { says = λ ns c t. sym (h.says ns t) ∙ e }
+  module _ (room : count < most_names) (there : SomeRecord file at) {bucket : ℕ} (b : bucket ≡ bucket_of (word_of file at)) (small : bucket < buckets) (e : r ≡ false) where
+    pub adds_one : Adds file at count heads links places true (set heads bucket (count + 1)) (set links count (get_or heads bucket 0)) (set places count at)
+    adds_one = record { says = λ ns c t. (sym (h.says ns t) ∙ e, table_with t at count bucket there c room b small) }
 
-    pub adds_one : {bucket : ℕ} → bucket ≡ bucket_of (word_of file at) → bucket < buckets → r ≡ false
-        → Adds file at count heads links places true (set heads bucket (count + 1)) (set links count (get_or heads bucket 0)) (set places count at)
-    adds_one {bucket} b small e = record { says = λ ns c t. (sym (h.says ns t) ∙ e, table_with t at count bucket s.there c s.room b small) }
+    pub one_more : SomeTable file count heads links places → SomeTable file (count + 1) (set heads bucket (count + 1)) (set links count (get_or heads bucket 0)) (set places count at)
+    one_more s = record {
+      names = s.names ++ (word_of file at ∷ []);
+      table = table_with s.table at count bucket there s.counted room b small;
+      counted = omega (arith, length-append s.names (word_of file at ∷ []), s.counted);
+    }
+
+module _ {file heads links places : List ℕ} {count : ℕ} (s : SomeTable file count heads links places) (x : ℕ) where
+  pub some_place_free : SomeTable file count heads links (set places count x)
+  some_place_free = record { names = s.names; table = place_free s.table count x s.counted; counted = s.counted }
+
+  pub some_link_free : SomeTable file count heads (set links count x) places
+  some_link_free = record { names = s.names; table = link_free s.table count x s.counted; counted = s.counted }

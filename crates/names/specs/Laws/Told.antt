@@ -3,7 +3,7 @@ use Prim.Native.Nat.{ℕ, zero, suc, ◌<◌}
 use Rattle.std.specs.Prelude.{◌≡◌, Bool}
 use Rattle.std.proofs.Math.Path.{ap, subst}
 use Rattle.std.proofs.Common.{◌∙◌, arith}
-use Rattle.std.proofs.Math.Bool.{false}
+use Rattle.std.proofs.Math.Bool.{true, false}
 use mathlib.Core.List.{List, [], ◌∷◌}
 use Rattle.std.proofs.Math.ListN.{length, get_or, length-map}
 use Rattle.rows.specs.Kinds.{Less}
@@ -12,16 +12,15 @@ use Rattle.rows.specs.Records.{RowToken, kinds_of, places_of}
 use Rattle.rows.specs.Laws.RowFacts.{WordsFound, words_found}
 use Rattle.names.specs.NameList.{is_name, NameList, listed, malformed, name_list, names_marked}
 use Rattle.names.specs.NamesSay.{word_of, Table, NamesListed, NamesTold, ReadsNames, RowIs, Marks}
-use Rattle.names.specs.declared.name_list.NamesRead.{NamesRead}
 
 -- ---- `read_names`
 
-module _ {file heads links places : List ℕ} {r : NamesRead} (h : ReadsNames file r heads links places) where
-  pub listed_there : {count : ℕ} → r ≡ NamesRead.Listed count → NamesListed file count heads links places
-  listed_there e = subst (λ (x : NamesRead). NamesTold file x heads links places) e h.told
+module _ {file heads links places : List ℕ} {count : ℕ} {r : Bool} (h : ReadsNames file r count heads links places) where
+  pub listed_there : r ≡ true → NamesListed file count heads links places
+  listed_there e = subst (λ (x : Bool). NamesTold file x count heads links places) e h.told
 
-  pub malformed_there : r ≡ NamesRead.Malformed → name_list file ≡ malformed
-  malformed_there e = subst (λ (x : NamesRead). NamesTold file x heads links places) e h.told
+  pub malformed_there : r ≡ false → name_list file ≡ malformed
+  malformed_there e = subst (λ (x : Bool). NamesTold file x count heads links places) e h.told
 
 -- ---- `mark_names`
 

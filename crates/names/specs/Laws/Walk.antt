@@ -3,18 +3,17 @@
 use Prim.Native.Nat.{ℕ, zero, suc, ◌+◌, ◌-◌, ◌≤◌, ◌<◌}
 use Rattle.std.proofs.Math.Path.{◌≡◌, refl, ap, subst}
 use Rattle.std.proofs.Common.{sym, ◌∙◌, arith, length-set}
-use Rattle.std.specs.Prelude.{Bool, get_or, drop, set, leb, if◌then◌else◌}
+use Rattle.std.specs.Prelude.{Bool, get_or, drop, set, leb, if◌then◌else◌, None, Option, Some}
 use Rattle.std.proofs.Math.Bool.{true, false}
 use mathlib.Core.List.{List, [], ◌∷◌}
 use Rattle.std.proofs.Math.ListN.{length, length-map}
 use Rattle.rows.specs.Kinds.{Less}
 use Rattle.rows.specs.Format.{format, head_length, most_tokens}
-use Rattle.rows.specs.Records.{RowToken, Tokens, tokens, malformed, row, found, word_at, length_at, before_tokens, after_record, tokens_from, to_end, records_from, kinds_of, places_of}
+use Rattle.rows.specs.Records.{RowToken, Tokens, tokens, malformed, row, found, word_at, length_at, before_tokens, after_record, tokens_from, to_end, records_from, kinds_of, places_of, formed}
 use Rattle.rows.specs.Records
 use Rattle.rows.specs.Laws.Tokens.{formed_fits}
 use Rattle.rows.specs.declared.answer.TypeNameError.TheVariants.{TooManyRecords}
 use Rattle.rows.specs.declared.token.TokenRecord.{TokenRecord}
-use Rattle.rows.specs.declared.token.TokenRecord.TheVariants.{Formed, Malformed}
 use Rattle.names.specs.NamesSay.{SomeRecord, Looks, word_of, RowIs, Marks}
 use Rattle.names.specs.Laws.MarkLoop.{MarkLoop, marks_begin, marks_pass, marks_again, marks_end}
 
@@ -28,17 +27,17 @@ module _ (file : List ℕ) where
   AllChained at (malformed offset) = Unit {0}
   AllChained at (tokens ts next) = Chained at ts
 
-  record_chained : (at : ℕ) (r : TokenRecord) (rest : ℕ → Tokens) → found format file at ≡ r → ((n : ℕ) → AllChained n (rest n)) → AllChained at (after_record format file at r rest)
+  record_chained : (at : ℕ) (r : Option TokenRecord) (rest : ℕ → Tokens) → found format file at ≡ r → ((n : ℕ) → AllChained n (rest n)) → AllChained at (after_record format file at r rest)
   unfolding after_record before_tokens
-  record_chained at Malformed rest e f = tt
-  record_chained at (Formed k n) rest e f = by (rest (at + n)) (f (at + n))
+  record_chained at None rest e f = tt
+  record_chained at (Some r) rest e f = by (rest (at + r.length)) (f (at + r.length))
     where
-      length_is : n ≡ length_at format file at
-      length_is = (formed_fits format file at k n e).is_length
+      length_is : r.length ≡ length_at format file at
+      length_is = (formed_fits format file at r.kind r.length e).is_length
 
-      by : (r : Tokens) → AllChained (at + n) r → AllChained at (before_tokens (record { place = at; kind = k; word = word_at format file at }) r)
+      by : (ts : Tokens) → AllChained (at + r.length) ts → AllChained at (before_tokens (record { place = at; kind = r.kind; word = word_at format file at }) ts)
       by (malformed offset) c = tt
-      by (tokens ts next) c = (refl, record { kind = k; size = n; is = e }, subst (λ (m : ℕ). Chained (at + m) ts) length_is c)
+      by (tokens ts next) c = (refl, record { kind = r.kind; size = r.length; is = e }, subst (λ (m : ℕ). Chained (at + m) ts) length_is c)
 
   tokens_chained : (most at : ℕ) → AllChained at (tokens_from format file most at)
   unfolding tokens_from

@@ -13,11 +13,10 @@ use Rattle.std.proofs.lemmas.List.{length-map}
 use Rattle.std.proofs.Math.Seq.{drop-append_seam}
 use Rattle.rows.specs.Kinds.{Identifier}
 use Rattle.rows.specs.Format.{format, short_bytes, token_length, longest_word}
-use Rattle.rows.specs.Records.{RowToken, Tokens, tokens, before_tokens, byte_values, little_endian, in_range, length_at, kind_at, span_start_at, span_end_at, word_at, length_fits, found, tokens_from, to_end, records_from}
+use Rattle.rows.specs.Records.{RowToken, Tokens, tokens, before_tokens, byte_values, little_endian, in_range, length_at, kind_at, span_start_at, span_end_at, word_at, length_fits, found, tokens_from, to_end, records_from, formed}
 use Rattle.rows.specs.Laws.Tokens.{word_whole, identifier_fits, by_length}
 use Rattle.rows.specs.Laws.RowLoop.{ends, begins_token}
 use Rattle.rows.specs.Laws.RowFacts.{token_there}
-use Rattle.rows.specs.declared.token.TokenRecord.TheVariants.{Formed}
 use Rattle.names.specs.Laws.ReadLoop.{not_distinct}
 use Rattle.names.specs.NameList.{most_names, distinct, all_words, words_in, listed, malformed, names_of, names_in, name_list}
 
@@ -92,7 +91,7 @@ module _ (file : List ℕ) (at : ℕ) (w rest : List ℕ) (g : GoodWord w) (ther
       ∙ word_whole format file at n is_length (omega (arith, g.some)) (omega (arith, g.short)) (omega (arith, inside))
       ∙ identifier_fits format file at n is_length Identifier is_kind refl
 
-  found_there : found format file at ≡ Formed Identifier n
+  found_there : found format file at ≡ formed Identifier n
   found_there =
       sym (by_length format file at n is_length Identifier is_kind (omega (arith, inside)) (omega arith) (omega (arith, starts, stops)) true fits)
 

@@ -1,5 +1,6 @@
 -- The buffers that the entries leave: a tree, and numbers behind it.
 -- Assumes nothing.
+use Rattle.rows.specs.Answer.{Answer}
 use Prim.Native.Nat.{ℕ, zero, suc, ◌+◌, ◌*◌, ◌-◌, ◌<◌}
 use Rattle.std.specs.Prelude.{◌≡◌, ◌≢◌, ◌&&◌, get_or, T}
 use Rattle.std.proofs.Common.{sym, ◌∙◌, arith, length-append, get_or-append-add}
@@ -12,7 +13,6 @@ use Rattle.rows.specs.Laws.Tests.{by_if}
 use Rattle.rows.specs.Laws.RowFacts.{good_row}
 use Rattle.rows.specs.declared.head.Head.{Head}
 use Rattle.rows.specs.Records.{RowToken, kinds_of, words_of}
-use Rattle.rows.specs.declared.answer.Answer.{Answer}
 use Rattle.reader.specs.Nodes.{NodeKind, t_node, g_node, b_node, l_node, a_node, Nodes, none, node, number, count, node_width, records, kind_of}
 use Rattle.reader.specs.Laws.NodeNumbers.{three_each}
 use Rattle.type_nodes.specs.Nodes.{next}

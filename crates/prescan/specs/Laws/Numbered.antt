@@ -1,6 +1,6 @@
 -- The prescan's refusals are those from 10 to 18.
 -- Assumes nothing.
-use Rattle.std.specs.Prelude.{ℕ, suc, ◌-◌, ◌&&◌, length, get_or}
+use Rattle.std.specs.Prelude.{ℕ, suc, ◌-◌, ◌&&◌, length, get_or, Some}
 use Rattle.std.proofs.Math.Bool.{not}
 use mathlib.Core.List.{List, [], ◌∷◌}
 use Rattle.std.proofs.Math.Dec.{leb, eqb}
@@ -9,7 +9,6 @@ use Rattle.rows.specs.Laws.Tests.{by_if}
 use Rattle.rows.specs.Laws.Numbered.{Between}
 use Rattle.rows.specs.declared.answer.Delimiter.{Delimiter}
 use Rattle.rows.specs.declared.answer.Delimiter.TheVariants.{Parenthesis, Bracket}
-use Rattle.rows.specs.declared.answer.Open.TheVariants.{Opened}
 use Rattle.rows.specs.declared.answer.TypeNameError.TheVariants.{UnexpectedClosingDelimiter}
 use Rattle.prescan.specs.Matcher.{Role, opens, closes, neither, role, same, Opener}
 use Rattle.prescan.specs.Prescan.{Scan, Scanned, passed, refused, start, close, opens_angle, outside_brackets, no_bracket, in_role, take_token, scan, valid_start, valid_end, row_end, at_row_end, prescan}
@@ -23,7 +22,7 @@ unfolding close
 close_numbered d k at [] s = tt
 close_numbered d k at (o ∷ outer) s = by_if Numbered (same o.delimiter d) (λ _. tt) λ _. other o.delimiter
   where
-    other : (d' : Delimiter) → Between 10 18 (UnexpectedClosingDelimiter (Opened d') d at)
+    other : (d' : Delimiter) → Between 10 18 (UnexpectedClosingDelimiter (Some d') d at)
     other Parenthesis = tt
     other Bracket = tt
 

@@ -1,6 +1,6 @@
 -- A row that passes the prescan has all its brackets paired: the plain matcher goes on as the prescan does, with the same openers held.
 -- Assumes nothing.
-use Rattle.std.specs.Prelude.{ℕ, suc, refl, Bool, true, false, ◌&&◌, if◌then◌else◌}
+use Rattle.std.specs.Prelude.{ℕ, suc, refl, Bool, true, false, ◌&&◌, if◌then◌else◌, Some}
 use Rattle.std.proofs.Math.Path.{◌≡◌}
 use Rattle.std.proofs.Math.Bool.{not}
 use mathlib.Core.List.{List, [], ◌∷◌}
@@ -9,7 +9,6 @@ use Rattle.std.proofs.Math.Dec.{leb, eqb}
 use Rattle.rows.specs.Kinds.{Comma, Less, Greater, ShiftRight, End}
 use Rattle.rows.specs.Laws.Tests.{by_if}
 use Rattle.rows.specs.declared.answer.Delimiter.{Delimiter}
-use Rattle.rows.specs.declared.answer.Open.TheVariants.{Opened}
 use Rattle.rows.specs.declared.answer.TypeNameError.TheVariants.{UnexpectedClosingDelimiter}
 use Rattle.prescan.specs.Matcher.{Role, opens, closes, neither, role, same, Opener, Pair, Matcher, stopped, going, pop, meet, matcher, Paired}
 use Rattle.prescan.specs.Prescan.{Scan, Scanned, passed, refused, start, past, close, opens_angle, outside_brackets, no_bracket, in_role, take_token, scan, row_end, at_row_end, prescan}
@@ -25,7 +24,7 @@ close_follows d k at [] s pairs = tt
 close_follows d k at (o ∷ outer) s pairs = both (same o.delimiter d)
   where
     both : (b : Bool)
-        → Follows (if b then passed (past k s outer s.angle_depth s.first_angle) else refused (UnexpectedClosingDelimiter (Opened o.delimiter) d at))
+        → Follows (if b then passed (past k s outer s.angle_depth s.first_angle) else refused (UnexpectedClosingDelimiter (Some o.delimiter) d at))
         (if b then going outer (record { opener = o.token; closer = at } ∷ pairs) else stopped)
     both true = (record { opener = o.token; closer = at } ∷ pairs, refl)
     both false = tt

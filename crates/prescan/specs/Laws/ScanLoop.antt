@@ -1,8 +1,8 @@
 -- The loop over a row's tokens: what is taken so far, and what is left.
 -- Assumes nothing.
-use Rattle.std.specs.Prelude.{ℕ, suc, ◌+◌, ◌≤◌, ◌<◌, ◌^◌, ◌≡◌, Bool, true, false, ◌||◌, length, get_or}
+use Rattle.std.specs.Prelude.{ℕ, suc, ◌+◌, ◌≤◌, ◌<◌, ◌^◌, ◌≡◌, Bool, true, false, ◌||◌, length, get_or, Result, Ok, Err}
 use Rattle.std.proofs.Math.Path.{refl, ap}
-use Rattle.std.proofs.Common.{subst, ◌∙◌, arith, add-one, drop-cons, eq-eqb, ne_eqb}
+use Rattle.std.proofs.Common.{◌∙◌, arith, add-one, drop-cons, eq-eqb, ne_eqb}
 use mathlib.Core.List.{List, [], ◌∷◌}
 use Rattle.std.proofs.Math.ListN.{drop, drop_of_length-le}
 use Rattle.rows.specs.Kinds.{Identifier}
@@ -14,10 +14,7 @@ use Rattle.prescan.specs.ScanState.{openers, scan_of, Past, Sound, Takes}
 use Rattle.prescan.specs.Laws.Ordinary.{Ordinary, identifier_ordinary}
 use Rattle.prescan.specs.Laws.Taking.{on_past, ordinary_taken}
 use Rattle.prescan.specs.Prescanned.{PrescanSays}
-use Rattle.prescan.specs.declared.boundary.Prescanned.{Prescanned}
-use Rattle.prescan.specs.declared.boundary.Prescanned.TheVariants.{Refused}
 use Rattle.prescan.specs.declared.scan.ScanState.{ScanState}
-use Rattle.prescan.specs.declared.scan.ScanStep.TheVariants as Step
 
 or_true : (b : Bool) → true ≡ (b || true)
 or_true true = refl
@@ -55,14 +52,14 @@ module _ (language : ℕ) where
     taken_on p = l.is ∙ rw (drop-cons kinds at 0 p) refl
 
     pub loop_refuses : at < length kinds → {stack' : List ℕ} {e : TypeNameError}
-        → Takes kinds stack' at (Step.Refused e) (take_token language (get_or kinds at 0) at (passed (scan_of (openers kinds stack s.depth) s))) → PrescanSays (Refused e) (prescan language kinds)
+        → Takes kinds stack' at (Err e) (take_token language (get_or kinds at 0) at (passed (scan_of (openers kinds stack s.depth) s))) → PrescanSays (Err e) (prescan language kinds)
     unfolding at_row_end
     loop_refuses p {e = e} t =
         let fault : scan language 0 kinds (passed start) ≡ refused e = taken_on p ∙ rw (← t.says) (scan_refused (suc at) (drop (suc at) kinds) e) in
         record { same = full_row kinds l.some ∙ ap (at_row_end language kinds) fault }
 
     pub loop_goes_on : at < length kinds → {stack' : List ℕ} {s' : ScanState}
-        → Takes kinds stack' at (Step.On s') (take_token language (get_or kinds at 0) at (passed (scan_of (openers kinds stack s.depth) s))) → ScanLoop kinds stack' s' (at + 1)
+        → Takes kinds stack' at (Ok s') (take_token language (get_or kinds at 0) at (passed (scan_of (openers kinds stack s.depth) s))) → ScanLoop kinds stack' s' (at + 1)
     loop_goes_on p t = record { some = l.some; sound = rw add-one t.sound; is = taken_on p ∙ rw (← t.says, add-one) refl }
 
     -- A token of an ordinary kind: the state keeps its brackets and angles.
@@ -79,7 +76,7 @@ module _ (language : ℕ) where
     unfolding past
     loop_ordinary p i o = ordinary_on p o (record { same_depth = refl; is = λ held. rw (ne_eqb (get_or kinds at 0) Identifier i, or_false s.word) })
 
-    pub loop_ends : length kinds ≤ at → (r : Prescanned)
+    pub loop_ends : length kinds ≤ at → (r : Result (Unit {0}) TypeNameError)
         → PrescanSays r (row_end language kinds (openers kinds stack s.depth) (scan_of (openers kinds stack s.depth) s)) → PrescanSays r (prescan language kinds)
     unfolding scan at_row_end
     loop_ends p r t =
@@ -88,9 +85,6 @@ module _ (language : ℕ) where
         let all : prescan language kinds ≡ row_end language kinds (openers kinds stack s.depth) (scan_of (openers kinds stack s.depth) s) =
         full_row kinds l.some ∙ ap (at_row_end language kinds) last in
         rw all t
-
-    pub at_end : length kinds ≤ at → Sound kinds stack s (length kinds)
-    at_end p = let same : at ≡ length kinds = omega (arith, l.sound.inside) in subst (λ (n : ℕ). Sound kinds stack s n) same l.sound
 
   -- Before the first token.
   pub loop_begins : (kinds stack : List ℕ) (s : ScanState) → 0 < length kinds → length kinds ≤ length stack → length kinds < 2 ^ 32 → s.depth ≡ 0 → s.angles ≡ 0

@@ -1,16 +1,17 @@
 -- A token taken by the code, way by way.
 -- Assumes nothing.
 use Prim.Native.Nat.{ℕ, zero, suc, ◌+◌, ◌≤◌, ◌<◌}
-use Rattle.std.specs.Prelude.{◌≡◌, Bool, true, false, length, get_or, set, eqb}
+use Rattle.std.specs.Prelude.{◌≡◌, Bool, true, false, length, get_or, set, eqb, Some, None, Result, Ok, Err}
 use Rattle.std.proofs.Math.Path.{refl, ap}
 use Rattle.std.proofs.Common.{sym, ◌∙◌, arith, length-set, get_or-set_same, get_or-set_other}
 use mathlib.Core.List.{List, [], ◌∷◌}
+use denote.Enum.Bare.{sameb}
+use Rattle.rows.specs.contracts.answer.Delimiter.{the_type}
 use borrow.Author.Tests.{ne_eqb, eqb-true, eqb-false}
 use Rattle.rows.specs.Notation.{◌is_one_of◌}
 use Rattle.rows.specs.Kinds.{LeftParen, RightParen, LeftBracket, RightBracket, Comma, Less, Greater, ShiftRight, End}
 use Rattle.rows.specs.declared.answer.Delimiter.{Delimiter}
 use Rattle.rows.specs.declared.answer.Delimiter.TheVariants.{Parenthesis, Bracket}
-use Rattle.rows.specs.declared.answer.Open.TheVariants.{Nothing, Opened}
 use Rattle.rows.specs.declared.answer.TypeNameError.{TypeNameError}
 use Rattle.rows.specs.declared.answer.TypeNameError.TheVariants.{UnexpectedClosingDelimiter, UnexpectedEndToken}
 use Rattle.prescan.specs.Matcher.{opens, neither, role, same}
@@ -19,8 +20,6 @@ use Rattle.prescan.specs.ScanState.{delimiter_of, openers, scan_of, Past, Steps,
 use Rattle.prescan.specs.Laws.Ordinary.{Ordinary}
 use Rattle.prescan.specs.Laws.Outside.{other_passes}
 use Rattle.prescan.specs.declared.scan.ScanState.{ScanState}
-use Rattle.prescan.specs.declared.scan.ScanStep.{ScanStep}
-use Rattle.prescan.specs.declared.scan.ScanStep.TheVariants.{On, Refused}
 
 -- ---- the stack
 
@@ -52,21 +51,29 @@ module _ {kinds stack : List ℕ} {s : ScanState} {at : ℕ} (sound : Sound kind
       }
 
   pub on_past : {r : ScanState} {k depth angles first : ℕ} {d : Scanned} → Past s k depth angles first r → depth ≤ s.depth → angles ≤ suc at
-      → d ≡ passed (past k (scan_of [] s) (openers kinds stack depth) angles first) → Takes kinds stack at (On r) d
+      → d ≡ passed (past k (scan_of [] s) (openers kinds stack depth) angles first) → Takes kinds stack at (Ok r) d
   on_past {r} {depth = depth} p fewer few e =
       record { says = ap (λ (n : ℕ). passed (scan_of (openers kinds stack n) r)) p.same_depth ∙ ap passed (p.is (openers kinds stack depth)) ∙ sym e; sound = sound_past p fewer few }
 
-pub refuses : {kinds stack : List ℕ} {at : ℕ} {e : TypeNameError} {d : Scanned} → d ≡ refused e → Takes kinds stack at (Refused e) d
+pub refuses : {kinds stack : List ℕ} {at : ℕ} {e : TypeNameError} {d : Scanned} → d ≡ refused e → Takes kinds stack at (Err e) d
 refuses e = record { says = sym e; sound = tt }
 
 -- ---- a closer
+
+-- Two brackets are of one sort where the derived comparison says so.
+pub own_sort : (o d : Delimiter) {r b : Bool} → r ≡ sameb the_type o d → r ≡ b → same o d ≡ b
+unfolding same
+own_sort Parenthesis Parenthesis e is = sym e ∙ is
+own_sort Parenthesis Bracket e is = sym e ∙ is
+own_sort Bracket Parenthesis e is = sym e ∙ is
+own_sort Bracket Bracket e is = sym e ∙ is
 
 module _ (kinds stack : List ℕ) (s : ScanState) (k at : ℕ) (d : Delimiter) where
   -- what the definition does
   abbrev closed : Scanned
   closed = close d k at (openers kinds stack s.depth) (scan_of (openers kinds stack s.depth) s)
 
-  pub nothing_open : s.depth ≡ 0 → closed ≡ refused (UnexpectedClosingDelimiter Nothing d at)
+  pub nothing_open : s.depth ≡ 0 → closed ≡ refused (UnexpectedClosingDelimiter None d at)
   unfolding openers close
   nothing_open e = rw e refl
 
@@ -75,7 +82,7 @@ module _ (kinds stack : List ℕ) (s : ScanState) (k at : ℕ) (d : Delimiter) w
     unfolding openers close past
     own_open e = rw (deep, ← is, e) refl
 
-    pub other_open : same o d ≡ false → closed ≡ refused (UnexpectedClosingDelimiter (Opened o) d at)
+    pub other_open : same o d ≡ false → closed ≡ refused (UnexpectedClosingDelimiter (Some o) d at)
     unfolding openers close
     other_open e = rw (deep, ← is, e) refl
 
@@ -152,7 +159,7 @@ module _ (language : ℕ) (kinds stack : List ℕ) (s : ScanState) (k at : ℕ) 
             let other_place : i ≡ s.depth → ⊥ = eqb-false i s.depth e in
             rw (get_or-set_other stack s.depth i at 0 other_place) (omega (arith, sound.tokens i (omega (arith, d, other_place))))
 
-    opener_takes : (d : Delimiter) → delimiter_of k ≡ d → role k ≡ opens d → {r : ScanState} → Past s k (s.depth + 1) s.angles s.first r → Takes kinds pushed at (On r) taken
+    opener_takes : (d : Delimiter) → delimiter_of k ≡ d → role k ≡ opens d → {r : ScanState} → Past s k (s.depth + 1) s.angles s.first r → Takes kinds pushed at (Ok r) taken
     unfolding take_token in_role past
     opener_takes d e o {r} p =
         let n : r.depth ≡ suc s.depth = omega (arith, p.same_depth) in
@@ -170,21 +177,21 @@ module _ (language : ℕ) (kinds stack : List ℕ) (s : ScanState) (k at : ℕ) 
               };
         }
 
-    pub round_opener : k ≡ LeftParen → {r : ScanState} → Past s k (s.depth + 1) s.angles s.first r → Takes kinds pushed at (On r) taken
+    pub round_opener : k ≡ LeftParen → {r : ScanState} → Past s k (s.depth + 1) s.angles s.first r → Takes kinds pushed at (Ok r) taken
     unfolding delimiter_of role
     round_opener e p = opener_takes Parenthesis (rw e refl) (rw e refl) p
 
-    pub square_opener : k ≡ LeftBracket → {r : ScanState} → Past s k (s.depth + 1) s.angles s.first r → Takes kinds pushed at (On r) taken
+    pub square_opener : k ≡ LeftBracket → {r : ScanState} → Past s k (s.depth + 1) s.angles s.first r → Takes kinds pushed at (Ok r) taken
     unfolding delimiter_of role
     square_opener e p = opener_takes Bracket (rw e refl) (rw e refl) p
 
 -- ---- a token outside brackets
 
-pub outside_takes : {kinds stack : List ℕ} {s : ScanState} {at : ℕ} → Sound kinds stack s at → at < length kinds → s.depth ≡ 0 → (r : ScanStep) (d d' : Scanned) → d' ≡ d
+pub outside_takes : {kinds stack : List ℕ} {s : ScanState} {at : ℕ} → Sound kinds stack s at → at < length kinds → s.depth ≡ 0 → (r : Result ScanState TypeNameError) (d d' : Scanned) → d' ≡ d
     → Steps [] s r d → Takes kinds stack at r d'
 unfolding openers
-outside_takes sound more none (Refused e) d d' q steps = record { says = steps.says ∙ sym q; sound = tt }
-outside_takes {kinds} {stack} {s} sound more none (On r) d d' q steps =
+outside_takes sound more none (Err e) d d' q steps = record { says = steps.says ∙ sym q; sound = tt }
+outside_takes {kinds} {stack} {s} sound more none (Ok r) d d' q steps =
     let n : r.depth ≡ 0 = steps.keeps.0 ∙ none in
     record {
       says = ap (λ (n : ℕ). passed (scan_of (openers kinds stack n) r)) n ∙ steps.says ∙ sym q;

@@ -1,6 +1,6 @@
 -- Numbers in a buffer: what is written at its front, and behind what stands there.
 -- Assumes nothing.
-use Rattle.std.specs.Prelude.{ℕ, suc, ◌+◌, ◌*◌, ◌-◌, ◌≤◌, ◌≡◌, refl, List, [], ◌∷◌, ◌++◌, length, take, drop, set}
+use Rattle.std.specs.Prelude.{ℕ, suc, ◌+◌, ◌*◌, ◌-◌, ◌≤◌, ◌≡◌, List, [], ◌∷◌, ◌++◌, length, take, drop}
 use Rattle.std.proofs.Common.{ap, sym, ◌∙◌, append_assoc, append-nil, arith, length-take, length-drop, drop_at, length-take-le, take-add, drop-drop, take-take, take_all}
 use Rattle.std.proofs.Math.Seq.{take-append-add}
 use Rattle.std.proofs.lemmas.List.{take-append-le}
@@ -14,13 +14,6 @@ lent k xs = take (length xs - k) (drop k xs)
 
 abbrev pub given_back : (k : ℕ) → List ℕ → List ℕ → List ℕ
 given_back k xs ys = take k xs ++ (ys ++ drop (length xs - k) (drop k xs))
-
--- Three numbers at the front.
-pub put : (xs : List ℕ) (a b c : ℕ) → node_width ≤ length xs → set (set (set xs 0 a) 1 b) 2 c ≡ a ∷ b ∷ c ∷ drop node_width xs
-put [] a b c h = absurd (omega arith)
-put (x ∷ []) a b c h = absurd (omega arith)
-put (x ∷ (y ∷ [])) a b c h = absurd (omega arith)
-put (x ∷ (y ∷ (z ∷ xs))) a b c h = refl
 
 -- A first part, and n of what follows it.
 take_past : (p q : List ℕ) (m n : ℕ) → length p ≡ m → take (m + n) (p ++ q) ≡ p ++ take n q
@@ -77,10 +70,10 @@ pub argument_written : (k : NodeKind) (x y : Nodes) (at m i kn : ℕ) (tree ys z
     → take (node_width * m) tree ≡ records x → take (node_width * i) (drop (node_width * m + node_width) tree) ≡ records y
     → ys ≡ kn ∷ at ∷ (i + 1) ∷ drop node_width (lent (node_width * m) tree) → length ys ≡ length tree - node_width * m
     → node_width * m + node_width + node_width * i ≤ length tree
-    → take (node_width * (m + i + 1)) (take (node_width * m) tree ++ (ys ++ zs)) ≡ records (x then node k at y none)
+    → take (node_width * (m + (i + 1))) (take (node_width * m) tree ++ (ys ++ zs)) ≡ records (x then node k at y none)
 unfolding records
 argument_written k x y at m i kn tree ys zs c q wx wy put long room =
-    let e : node_width * (m + i + 1) ≡ node_width * m + node_width * suc i = omega arith in
+    let e : node_width * (m + (i + 1)) ≡ node_width * m + node_width * suc i = omega arith in
     let s : i + 1 ≡ suc i = omega arith in
     let t : suc i ≡ suc (count y) = ap suc (sym c) in
     let whole : lent (node_width * m) tree ≡ drop (node_width * m) tree = take_all (length tree - node_width * m) (drop (node_width * m) tree) (simp length-drop (omega arith)) in

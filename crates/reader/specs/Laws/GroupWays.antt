@@ -1,6 +1,6 @@
 -- What each way through `parse_group` shows, over lists and numbers alone.
 -- Assumes nothing.
-use Rattle.std.specs.Prelude.{ℕ, ◌+◌, ◌*◌, ◌-◌, ◌≤◌, ◌≡◌, refl, ◌≢◌, Bool, false, List, take, drop, eqb}
+use Rattle.std.specs.Prelude.{ℕ, ◌+◌, ◌*◌, ◌-◌, ◌≤◌, ◌≡◌, refl, ◌≢◌, Bool, false, List, take, drop, eqb, Option, Some, None, Result, Ok, Err}
 use Rattle.std.proofs.Common.{sym, ◌∙◌, length-append}
 use Rattle.std.proofs.Math.Path.{subst}
 use native.Mathlib.Omega.{arith}
@@ -8,12 +8,11 @@ use Rattle.std.proofs.Math.ListN.{length, length-take, length-drop}
 use Rattle.rows.specs.Kinds.{Identifier, NoToken}
 use Rattle.rows.specs.declared.answer.TypeNameError.{TypeNameError}
 use Rattle.rows.specs.declared.answer.Delimiter.TheVariants.{Parenthesis, Bracket}
-use Rattle.rows.specs.declared.answer.Open.{Open}
-use Rattle.rows.specs.declared.answer.Open.TheVariants.{Nothing, Opened}
+use Rattle.rows.specs.declared.answer.Delimiter.{Delimiter}
 use Rattle.reader.specs.Nodes.{none, node, count, node_width}
 use Rattle.reader.specs.Reading.{Region, refusal, starts, next, kind_at, MAX_NESTING_DEPTH}
 use Rattle.reader.specs.Tables.{region_of, planned, Plans}
-use Rattle.reader.specs.ReaderSays.{ParserReady, Told, Denied, GroupSays, GroupAnswers, Found, NodeSays, NodeAnswers, region_due, node_due, rest_due}
+use Rattle.reader.specs.ReaderSays.{ParserReady, Told, Denied, GroupSays, GroupAnswers, Found, NodeAnswers, region_due, rest_due}
 use Rattle.reader.specs.Laws.Derived.{Read, Allowed, next_allowed}
 use Rattle.reader.specs.Laws.Bounds.{forwards, within}
 use Rattle.reader.specs.Laws.Buffer.{lent, given_back, after_front, holds}
@@ -24,33 +23,13 @@ use Rattle.reader.specs.declared.tables.GroupStep.{GroupStep}
 use Rattle.reader.specs.declared.parser.TypeSyntaxParser.{TypeSyntaxParser}
 use Rattle.reader.specs.declared.parser.Stop.{Stop}
 use Rattle.reader.specs.declared.parser.Stop.TheVariants.{Refused, Spent}
-use Rattle.reader.specs.declared.parser.Reading as CodeReading
-use Rattle.reader.specs.declared.parser.Reading.TheVariants.{Done, Stopped}
+use Rattle.reader.specs.declared.parser.NodesRead.{NodesRead}
 
--- ---- the answer is known to be one of the two
-
-module _ {cpp : Bool} {row : List ℕ} {lists nesting : ℕ} {after_identifier : Bool} {p : TypeSyntaxParser} {r : CodeReading.Reading} {buf : List ℕ} where
-  pub node_found : {now : TypeSyntaxParser} {n : ℕ} → r ≡ Done now n → NodeAnswers cpp row lists nesting after_identifier p r buf → Found cpp row lists nesting after_identifier p now n buf
-  node_found e h = subst (λ (x : CodeReading.Reading). NodeSays cpp row lists nesting after_identifier p x buf) e h.says
-
-  pub node_stopped : {s : Stop} → r ≡ Stopped s → NodeAnswers cpp row lists nesting after_identifier p r buf → (l : Region) → Denied (node_due cpp row lists nesting after_identifier p l) s
-  node_stopped e h = subst (λ (x : CodeReading.Reading). NodeSays cpp row lists nesting after_identifier p x buf) e h.says
-
-  pub node_finds_so : {now : TypeSyntaxParser} {n : ℕ} → r ≡ Done now n → Found cpp row lists nesting after_identifier p now n buf → NodeAnswers cpp row lists nesting after_identifier p r buf
-  node_finds_so e h = record { says = subst (λ (x : CodeReading.Reading). NodeSays cpp row lists nesting after_identifier p x buf) (sym e) h }
-
-  pub node_stops_so : {s : Stop} → r ≡ Stopped s → ((l : Region) → Denied (node_due cpp row lists nesting after_identifier p l) s) → NodeAnswers cpp row lists nesting after_identifier p r buf
-  node_stops_so e h = record { says = subst (λ (x : CodeReading.Reading). NodeSays cpp row lists nesting after_identifier p x buf) (sym e) h }
-
-module _ {row : List ℕ} {at : ℕ} {o : Limited} {r : CodeReading.Reading} {buf : List ℕ} where
-  pub group_told : {now : TypeSyntaxParser} {n : ℕ} → r ≡ Done now n → GroupAnswers row at o r buf → Told row at 0 o now n buf
-  group_told e h = subst (λ (x : CodeReading.Reading). GroupSays row at o x buf) e h.says
-
-  pub group_stopped : {s : Stop} → r ≡ Stopped s → GroupAnswers row at o r buf → Denied o s
-  group_stopped e h = subst (λ (x : CodeReading.Reading). GroupSays row at o x buf) e h.says
-
-  pub group_stops_so : {s : Stop} → r ≡ Stopped s → Denied o s → GroupAnswers row at o r buf
-  group_stops_so e h = record { says = subst (λ (x : CodeReading.Reading). GroupSays row at o x buf) (sym e) h }
+-- The node that `parse_node` wrote.
+pub node_finds_so : {cpp : Bool} {row : List ℕ} {lists nesting : ℕ} {after_identifier : Bool} {p now : TypeSyntaxParser} {n : ℕ} {x : NodesRead} {buf : List ℕ} → x ≡ record { next = now; nodes = n }
+    → Found cpp row lists nesting after_identifier p now n buf → NodeAnswers cpp row lists nesting after_identifier p (Ok x) buf
+node_finds_so {cpp} {row} {lists} {nesting} {after_identifier} {p} {buf = buf} e h =
+    record { says = subst (λ (y : NodesRead). Found cpp row lists nesting after_identifier p y.next y.nodes buf) (sym e) h }
 
 -- ---- the loop
 
@@ -64,14 +43,14 @@ pub group_begins : {cpp : Bool} {row tree : List ℕ} {l : Region} {lists nestin
 group_begins ready = record { long = refl; way = record { forwards = omega arith; within = omega arith; size = omega arith }; reached = begun }
 
 -- A token where a node begins is one.
-pub node_here : {k at : ℕ} (end : Open) → Plans GroupStep.Node (region_of end) k at → k ≢ NoToken
+pub node_here : {k at : ℕ} (end : Option Delimiter) → Plans GroupStep.Node (region_of end) k at → k ≢ NoToken
 unfolding planned next starts
-node_here Nothing p e = let h = p.plans false false false 0 in let h' = rw e at h in let z : ◌≡◌ {A = ℕ} 0 1 = cc in absurd (omega arith)
-node_here (Opened Parenthesis) p e = let h = p.plans false false false 0 in let h' = rw e at h in let z : ◌≡◌ {A = ℕ} 0 1 = cc in absurd (omega arith)
-node_here (Opened Bracket) p e = let h = p.plans false false false 0 in let h' = rw e at h in let z : ◌≡◌ {A = ℕ} 0 1 = cc in absurd (omega arith)
+node_here None p e = let h = p.plans false false false 0 in let h' = rw e at h in let z : ◌≡◌ {A = ℕ} 0 1 = cc in absurd (omega arith)
+node_here (Some Parenthesis) p e = let h = p.plans false false false 0 in let h' = rw e at h in let z : ◌≡◌ {A = ℕ} 0 1 = cc in absurd (omega arith)
+node_here (Some Bracket) p e = let h = p.plans false false false 0 in let h' = rw e at h in let z : ◌≡◌ {A = ℕ} 0 1 = cc in absurd (omega arith)
 
-pub planned_so : {step step' : GroupStep} {l : Region} {k k' at : ℕ} → k ≡ k' → step ≡ step' → Plans step l k at → Plans step' l k' at
-planned_so {step} {step'} {l} {k} {k'} {at} ke e p = subst (λ (j : ℕ). Plans step' l j at) ke (subst (λ (x : GroupStep). Plans x l k at) e p)
+pub planned_so : {step : GroupStep} {l : Region} {k k' at : ℕ} → k ≡ k' → Plans step l k at → Plans step l k' at
+planned_so {step} {l} {k} {k'} {at} ke p = subst (λ (j : ℕ). Plans step l j at) ke p
 
 module _ {cpp : Bool} {row tree₀ : List ℕ} {l : Region} {lists nesting : ℕ} {p : TypeSyntaxParser} {tree : List ℕ} {now : TypeSyntaxParser} {after_identifier : Bool} {m : ℕ}
     (inv : GroupLoop cpp row tree₀ l lists nesting p tree now after_identifier m) (shallow : nesting ≤ MAX_NESTING_DEPTH) where
@@ -111,9 +90,9 @@ module _ {cpp : Bool} {row tree₀ : List ℕ} {l : Region} {lists nesting : ℕ
     at_node = plan.plans cpp after_identifier now.pending_greater lists
 
     -- A node stops it.
-    pub group_node_stops : {r : CodeReading.Reading} {s : Stop} {buf buf' : List ℕ} → r ≡ Stopped s → NodeAnswers cpp row lists nesting after_identifier now r buf
-        → GroupAnswers row p.cursor (region_due cpp row l lists nesting p) r buf'
-    group_node_stops {s = s} e h = group_stops_so e (rw down (node_stop inv.reached inv.way.within at_node s (node_stopped e h)))
+    pub group_node_stops : {s : Stop} {buf buf' : List ℕ} → NodeAnswers cpp row lists nesting after_identifier now (Err s) buf
+        → GroupAnswers row p.cursor (region_due cpp row l lists nesting p) (Err s) buf'
+    group_node_stops {s} h = record { says = rw down (node_stop inv.reached inv.way.within at_node s h.says) }
 
     -- One node more.
     pub group_again : {k : ℕ} → k ≡ kind_at row now.cursor → {to : TypeSyntaxParser} {more : ℕ} (ys : List ℕ) → Found cpp row lists nesting after_identifier now to more ys
@@ -133,9 +112,12 @@ module _ {cpp : Bool} {row tree₀ : List ℕ} {l : Region} {lists nesting : ℕ
         }
 
 -- Why a level stopped.
-module _ {row : List ℕ} {at : ℕ} {o : Limited} {r : CodeReading.Reading} {s : Stop} {buf : List ℕ} (e : r ≡ Stopped s) (h : GroupAnswers row at o r buf) where
+module _ {row : List ℕ} {at : ℕ} {o : Limited} {r : Result NodesRead Stop} {s : Stop} {buf : List ℕ} (e : r ≡ Err s) (h : GroupAnswers row at o r buf) where
+  group_stopped : Denied o s
+  group_stopped = subst (λ (x : Result NodesRead Stop). GroupSays row at o x buf) e h.says
+
   pub stopped_refused : {x : TypeNameError} {left : ℕ} → s ≡ Refused x left → o ≡ denied (refusal x) left
-  stopped_refused q = subst (Denied o) q (group_stopped e h)
+  stopped_refused q = subst (Denied o) q group_stopped
 
   pub stopped_spent : s ≡ Spent → o ≡ spent
-  stopped_spent q = subst (Denied o) q (group_stopped e h)
+  stopped_spent q = subst (Denied o) q group_stopped

@@ -1,7 +1,7 @@
 -- What each way through `parse_template_arguments` shows, over lists and numbers alone.
 -- Assumes nothing.
 use Prim.Native.Nat.{ℕ, suc, ◌+◌, ◌*◌, ◌-◌, ◌≤◌, ◌<◌}
-use Rattle.std.specs.Prelude.{◌≡◌, ◌≢◌, Bool, ◌||◌, List, ◌∷◌, ◌++◌, take, eqb}
+use Rattle.std.specs.Prelude.{◌≡◌, ◌≢◌, Bool, ◌||◌, List, ◌∷◌, ◌++◌, take, eqb, Result, Err}
 use Rattle.std.proofs.Math.Path.{refl, sym, ap}
 use Rattle.std.proofs.Common.{subst, ◌∙◌, length-append}
 use Rattle.std.proofs.Math.Bool.{true, false}
@@ -12,21 +12,19 @@ use Rattle.rows.specs.Kinds.{Identifier, Comma, NoToken}
 use Rattle.rows.specs.declared.answer.TypeNameError.TheVariants.{NestingLimitExceeded}
 use Rattle.reader.specs.Nodes.{a_node, Nodes, none, node, number, count, node_width, records}
 use Rattle.reader.specs.Reading.{argument, list, Fault, refusal, no_list, first, is_angle_close, starts, next, kind_at, MAX_NESTING_DEPTH, read}
-use Rattle.reader.specs.ReaderSays.{ParserReady, Told, Denied, Found, NodeAnswers, ListSays, ListAnswers, region_due, rest_due, list_reading_of, closed_at, closed_half}
+use Rattle.reader.specs.ReaderSays.{ParserReady, Denied, Found, NodeAnswers, ListSays, ListAnswers, region_due, rest_due, list_stop_of, closed_at, closed_half, list_ended}
 use Rattle.reader.specs.Laws.Tokens.{inside}
 use Rattle.reader.specs.Laws.Loops.{◌then◌, then_count}
 use Rattle.reader.specs.Laws.Buffer.{lent, given_back, after, front, holds, argument_written}
 use Rattle.reader.specs.Allowance.{Limited, done, denied, reading_within, behind}
 use Rattle.reader.specs.Laws.Allowance.{on_done, argued_left, limited_first}
 use Rattle.reader.specs.Laws.Ahead.{ahead, ahead_behind, ahead_done, down_deep, down_read, turned, turned_ends, turned_stops}
-use Rattle.reader.specs.Laws.GroupWays.{node_stopped}
 use Rattle.reader.specs.Laws.Reached.{Way, Reached, begun, reached_done, reached_denied, reached_spent, node_stop, node_more}
 use Rattle.reader.specs.declared.parser.TypeSyntaxParser.{TypeSyntaxParser}
 use Rattle.reader.specs.declared.parser.Stop.{Stop}
 use Rattle.reader.specs.declared.parser.Stop.TheVariants.{Refused, Spent}
-use Rattle.reader.specs.declared.parser.Reading as CodeReading
-use Rattle.reader.specs.declared.parser.Reading.TheVariants.{Stopped}
-use Rattle.reader.specs.declared.parser.ListReading.{ListReading}
+use Rattle.reader.specs.declared.parser.NodesRead.{NodesRead}
+use Rattle.reader.specs.declared.parser.ListStop.{ListStop}
 use Rattle.reader.specs.declared.parser.ListEnd.{ListEnd}
 use Rattle.reader.specs.declared.parser.ListEnd.TheVariants.{Closed, EmptyArgument, Unterminated}
 
@@ -81,16 +79,6 @@ EndedBy row at o tree now m Unterminated = (e : Fault) × (o ≡ denied e now.le
 pub record Ended (row tree₀ : List ℕ) (at : ℕ) (o : Limited) (tree : List ℕ) (now : TypeSyntaxParser) (m : ℕ) (a : ListEnd) : Type 0 where
   pub long : length tree ≡ length tree₀
   pub by : EndedBy row at o tree now m a
-
-module _ {row tree₀ : List ℕ} {at : ℕ} {o : Limited} {tree : List ℕ} {now : TypeSyntaxParser} {m : ℕ} {a : ListEnd} where
-  pub by_closed : a ≡ Closed → Ended row tree₀ at o tree now m a → Closing row at o tree now m
-  by_closed e w = subst (EndedBy row at o tree now m) e w.by
-
-  pub by_empty : a ≡ EmptyArgument → Ended row tree₀ at o tree now m a → (e : Fault) × (o ≡ denied e now.left)
-  by_empty e w = subst (EndedBy row at o tree now m) e w.by
-
-  pub by_unterminated : a ≡ Unterminated → Ended row tree₀ at o tree now m a → (e : Fault) × (o ≡ denied e now.left)
-  by_unterminated e w = subst (EndedBy row at o tree now m) e w.by
 
 module _ {row tree₀ : List ℕ} {at : ℕ} {o : Limited} {tree tree' : List ℕ} {now now' : TypeSyntaxParser} {m m' : ℕ} {a : ListEnd}
     (e₁ : tree ≡ tree') (e₂ : now ≡ now') (e₃ : m ≡ m') (long : length tree' ≡ length tree₀) where
@@ -203,16 +191,16 @@ module _ {cpp : Bool} {row : List ℕ} {lists nesting : ℕ} where
           unfolding next
           at_node = sym (rw (f, ne_eqb (kind_at row now.cursor) NoToken k))
 
-          nodes_stop : (s : Stop) → Denied (rest_due cpp row lists nesting false now₁ argument) s → (buf : List ℕ) → ListSays row p.cursor (whole) (list_reading_of (Stopped s)) buf
+          nodes_stop : (s : Stop) → Denied (rest_due cpp row lists nesting false now₁ argument) s → (buf : List ℕ) → ListSays row p.cursor (whole) (Err (list_stop_of s)) buf
           unfolding on_done
           nodes_stop (Refused e left) q buf = (refusal e, arguments_denied (refusal e) left (list_first ∙ ap after_nodes q))
           nodes_stop Spent q buf = downs ∙ reached_spent outer.reached (list_first ∙ ap after_nodes q)
 
           -- A node stops it.
-          pub list_node_stops : {q : CodeReading.Reading} {s : Stop} {r : ListReading} {buf buf' : List ℕ} → q ≡ Stopped s → NodeAnswers cpp row lists nesting after_identifier now q buf → r ≡ list_reading_of q
+          pub list_node_stops : {s : Stop} {r : Result NodesRead ListStop} {buf buf' : List ℕ} → NodeAnswers cpp row lists nesting after_identifier now (Err s) buf → r ≡ Err (list_stop_of s)
               → ListAnswers row p.cursor (whole) r buf'
-          list_node_stops {s = s} {buf' = buf'} e h l = record {
-            says = subst (λ (x : ListReading). ListSays row p.cursor (whole) x buf') (sym (l ∙ ap list_reading_of e)) (nodes_stop s (node_stop inv.reached inv.way.within at_node s (node_stopped e h)) buf');
+          list_node_stops {s} {buf' = buf'} h l = record {
+            says = subst (λ (x : Result NodesRead ListStop). ListSays row p.cursor (whole) x buf') (sym l) (nodes_stop s (node_stop inv.reached inv.way.within at_node s h.says) buf');
           }
 
           -- One node more.
@@ -265,19 +253,19 @@ module _ {cpp : Bool} {row : List ℕ} {lists nesting : ℕ} where
             abbrev with_argument : Nodes
             with_argument = outer.reached.nodes then node a_node at₁ inv.reached.nodes none
 
-            argument_records : take (node_width * (m + i + 1)) (take (node_width * m) tree ++ (ys ++ zs)) ≡ records with_argument
+            argument_records : take (node_width * (m + (i + 1))) (take (node_width * m) tree ++ (ys ++ zs)) ≡ records with_argument
             unfolding number
             argument_records =
                 argument_written a_node outer.reached.nodes inv.reached.nodes at₁ m i 4 tree ys zs inv.reached.counted refl (inv.same ∙ outer.reached.written) inv.reached.written put
                 (long' ∙ simp (length-take, length-drop) (omega arith)) room
 
-            argument_count : count with_argument ≡ m + i + 1
+            argument_count : count with_argument ≡ m + (i + 1)
             unfolding count
             argument_count = then_count outer.reached.nodes (node a_node at₁ inv.reached.nodes none) ∙ omega (arith, outer.reached.counted, inv.reached.counted)
 
             -- A comma, and then the next argument.
             pub arguments_again : kind_at row now.cursor ≡ Comma → length (take (node_width * m) tree ++ (ys ++ zs)) ≡ length tree
-                → ArgumentsLoop cpp row tree₀ lists nesting p (take (node_width * m) tree ++ (ys ++ zs)) (record { cursor = now.cursor + 1; pending_greater = now.pending_greater; left = now.left }) (m + i + 1)
+                → ArgumentsLoop cpp row tree₀ lists nesting p (take (node_width * m) tree ++ (ys ++ zs)) (record { cursor = now.cursor + 1; pending_greater = now.pending_greater; left = now.left }) (m + (i + 1))
             arguments_again k e =
                 let w = outer.way in
                 let v = inv.way in
@@ -302,7 +290,7 @@ module _ {cpp : Bool} {row : List ℕ} {lists nesting : ℕ} where
                 }
 
             -- The list is closed.
-            pub arguments_closed : kind_at row now.cursor ≢ Comma → Closing row p.cursor (whole) (take (node_width * m) tree ++ (ys ++ zs)) now (m + i + 1)
+            pub arguments_closed : kind_at row now.cursor ≢ Comma → Closing row p.cursor (whole) (take (node_width * m) tree ++ (ys ++ zs)) now (m + (i + 1))
             arguments_closed k =
                 let w = outer.way in
                 let v = inv.way in
@@ -323,16 +311,20 @@ module _ {cpp : Bool} {row : List ℕ} {lists nesting : ℕ} where
                   size = omega arith;
                 }
 
--- The list's arguments, where its closer has been taken.
-pub list_closed : {row : List ℕ} {at : ℕ} {o : Limited} {tree : List ℕ} {now to : TypeSyntaxParser} {m : ℕ} → Closing row at o tree now m
-    → to.cursor ≡ closed_at now.cursor now.pending_greater → to.pending_greater ≡ closed_half row now.cursor now.pending_greater → to.left ≡ now.left
-    → Told row at 1 o to m tree
-list_closed {row} {now = now} {to = to} w a h l = record {
-  nodes = w.nodes;
-  is = w.is ∙ rw (a, h, l);
-  counted = w.counted;
-  written = w.written;
-  forwards = omega (arith, w.forwards, closed_later now.cursor now.pending_greater);
-  within = omega (arith, w.within);
-  size = omega (arith, w.size, closed_later now.cursor now.pending_greater);
-}
+-- What comes of the list.
+pub list_says : {row tree₀ : List ℕ} {at : ℕ} {o : Limited} {tree : List ℕ} {now : TypeSyntaxParser} {m : ℕ} {r : Result NodesRead ListStop} (a : ListEnd) → r ≡ list_ended row now m a
+    → Ended row tree₀ at o tree now m a → ListAnswers row at o r tree
+list_says {row} {at = at} {o} {tree} {now} {m} {r} a e w = record { says = subst (λ (x : Result NodesRead ListStop). ListSays row at o x tree) (sym e) (by a w.by) }
+  where
+    by : (a : ListEnd) → EndedBy row at o tree now m a → ListSays row at o (list_ended row now m a) tree
+    by Closed w = record {
+      nodes = w.nodes;
+      is = w.is;
+      counted = w.counted;
+      written = w.written;
+      forwards = omega (arith, w.forwards, closed_later now.cursor now.pending_greater);
+      within = w.within;
+      size = omega (arith, w.size, closed_later now.cursor now.pending_greater);
+    }
+    by EmptyArgument w = w
+    by Unterminated w = w

@@ -3,13 +3,12 @@
 use Prim.Native.Nat.{ℕ, suc, ◌+◌, ◌-◌, ◌≤◌, ◌<◌}
 use Rattle.std.proofs.Math.Path.{◌≡◌, refl, ap, subst}
 use Rattle.std.proofs.Common.{sym, ◌∙◌, ne_eqb}
-use Rattle.std.specs.Prelude.{◌≢◌, Bool, true, ◌&&◌, List, ◌∷◌, ◌++◌, length, take, drop, leb, eqb}
+use Rattle.std.specs.Prelude.{◌≢◌, Bool, true, ◌&&◌, List, ◌∷◌, ◌++◌, length, take, drop, leb, eqb, Some, Result, Ok, Err}
 use Rattle.std.proofs.Math.Bool.{false}
 use native.Mathlib.Omega.{arith}
 use Rattle.rows.specs.Kinds.{Identifier, LeftParen, LeftBracket, Less}
 use Rattle.rows.specs.Laws.Tests.{by_if}
 use Rattle.rows.specs.declared.answer.Delimiter.{Delimiter}
-use Rattle.rows.specs.declared.answer.Open.TheVariants.{Opened}
 use Rattle.reader.specs.Nodes.{NodeKind, t_node, l_node, Nodes, none, number, count, node_width}
 use Rattle.reader.specs.Reading.{Region, list, Fault, Next, token, starts, kind_at, MAX_NESTING_DEPTH, down, go, read}
 use Rattle.reader.specs.Tables.{region_of, node_of, started}
@@ -17,26 +16,21 @@ use Rattle.reader.specs.ReaderSays.{Told, Denied, GroupAnswers, Found, NodeSays,
 use Rattle.reader.specs.Allowance.{Limited, done, denied, spent, reading_within, behind}
 use Rattle.reader.specs.Laws.Allowance.{on_done, Costs, limited_token, limited_group, limited_angle, none_left}
 use Rattle.reader.specs.Laws.Buffer.{node_written, token_written}
-use Rattle.reader.specs.Laws.GroupWays.{node_stops_so, group_stopped}
 use Rattle.reader.specs.declared.tables.Start.{Start}
 use Rattle.reader.specs.declared.parser.TypeSyntaxParser.{TypeSyntaxParser}
 use Rattle.reader.specs.declared.parser.Stop.{Stop}
 use Rattle.reader.specs.declared.parser.Stop.TheVariants.{Refused, Spent}
-use Rattle.reader.specs.declared.parser.Reading as CodeReading
-use Rattle.reader.specs.declared.parser.Reading.TheVariants.{Done, Stopped}
-use Rattle.reader.specs.declared.parser.ListReading.{ListReading}
+use Rattle.reader.specs.declared.parser.NodesRead.{NodesRead}
+use Rattle.reader.specs.declared.parser.ListStop.{ListStop}
 
--- ---- what a try of a list came to
+-- ---- why a try of a list came to none
 
-module _ {row : List ℕ} {at : ℕ} {o : Limited} {r : ListReading} {buf : List ℕ} where
-  pub list_read : {now : TypeSyntaxParser} {n : ℕ} → r ≡ ListReading.Read now n → ListAnswers row at o r buf → Told row at 1 o now n buf
-  list_read e h = subst (λ (x : ListReading). ListSays row at o x buf) e h.says
+module _ {row : List ℕ} {at : ℕ} {o : Limited} {r : Result NodesRead ListStop} {stop : ListStop} {buf : List ℕ} (e : r ≡ Err stop) (h : ListAnswers row at o r buf) where
+  pub list_failed : {left : ℕ} → stop ≡ ListStop.Failed left → (x : Fault) × (o ≡ denied x left)
+  list_failed q = subst (λ (x : ListStop). ListSays row at o (Err x) buf) q (subst (λ (x : Result NodesRead ListStop). ListSays row at o x buf) e h.says)
 
-  pub list_failed : {left : ℕ} → r ≡ ListReading.Failed left → ListAnswers row at o r buf → (e : Fault) × (o ≡ denied e left)
-  list_failed e h = subst (λ (x : ListReading). ListSays row at o x buf) e h.says
-
-  pub list_spent : r ≡ ListReading.Spent → ListAnswers row at o r buf → o ≡ spent
-  list_spent e h = subst (λ (x : ListReading). ListSays row at o x buf) e h.says
+  pub list_spent : stop ≡ ListStop.Spent → o ≡ spent
+  list_spent q = subst (λ (x : ListStop). ListSays row at o (Err x) buf) q (subst (λ (x : Result NodesRead ListStop). ListSays row at o x buf) e h.says)
 
 -- ---- how a node begins
 
@@ -52,19 +46,18 @@ no_word : (cpp after_identifier : Bool) (k : ℕ) (nx : Next) → nx ≡ starts 
 unfolding starts
 no_word cpp after_identifier k nx h f = sym (ne_eqb k Identifier (λ e. f (h ∙ ap (starts cpp after_identifier) e)))
 
-pub started_so : (cpp after_identifier : Bool) {k k' : ℕ} {s s' : Start} → k ≡ k' → s ≡ s' → started k s ≡ starts cpp after_identifier k → started k' s' ≡ starts cpp after_identifier k'
-started_so cpp after_identifier {k} {k'} {s} {s'} ke e h =
-    subst (λ (j : ℕ). started j s' ≡ starts cpp after_identifier j) ke (subst (λ (x : Start). started k x ≡ starts cpp after_identifier k) e h)
+pub started_so : (cpp after_identifier : Bool) {k k' : ℕ} (s : Start) → k ≡ k' → started k s ≡ starts cpp after_identifier k → started k' s ≡ starts cpp after_identifier k'
+started_so cpp after_identifier s ke h = subst (λ (j : ℕ). started j s ≡ starts cpp after_identifier j) ke h
 
 pub past_cursor : {b : TypeSyntaxParser} (p : TypeSyntaxParser) (left : ℕ) → b ≡ past p left → b.cursor ≡ p.cursor + 1
 past_cursor p left e = ap (λ (x : TypeSyntaxParser). x.cursor) e
 
 -- What `parse_token` read.
-pub token_read_so : {p b : TypeSyntaxParser} {r : CodeReading.Reading} {before after : List ℕ} → r ≡ Done b 1 → p.left ≢ 0 → b ≡ past p (p.left - 1)
-    → after ≡ 0 ∷ p.cursor ∷ 1 ∷ drop node_width before → TokenAnswers p r before after
+pub token_read_so : {p b : TypeSyntaxParser} {x : NodesRead} {before after : List ℕ} → x ≡ record { next = b; nodes = 1 } → p.left ≢ 0 → b ≡ past p (p.left - 1)
+    → after ≡ 0 ∷ p.cursor ∷ 1 ∷ drop node_width before → TokenAnswers p (Ok x) before after
 unfolding number
 token_read_so {p} {before = before} {after} e some entered w =
-    record { says = subst (λ (x : CodeReading.Reading). TokenSays p x before after) (sym e) (some, entered, refl, w) }
+    record { says = subst (λ (y : NodesRead). TokenSays p (Ok y) before after) (sym e) (some, entered, refl, w) }
 
 module _ (cpp : Bool) (row : List ℕ) (lists nesting : ℕ) (after_identifier : Bool) (p : TypeSyntaxParser) where
   abbrev at : ℕ
@@ -144,14 +137,14 @@ module _ (cpp : Bool) (row : List ℕ) (lists nesting : ℕ) (after_identifier :
       abbrev grouped : Region → Limited → Limited
       grouped l o = on_done o (λ b at' half' left'. behind (node_of δ) at b (reading_within left' (read cpp row l lists nesting false at' half'))) (λ x left'. denied x left')
 
-      group_turn : (l : Region) → node_due cpp row lists nesting after_identifier p l ≡ grouped l (region_due cpp row (region_of (Opened δ)) lists (nesting + 1) b)
+      group_turn : (l : Region) → node_due cpp row lists nesting after_identifier p l ≡ grouped l (region_due cpp row (region_of (Some δ)) lists (nesting + 1) b)
       unfolding started
       group_turn l =
           enters _ e l
-          ∙ limited_group cpp row (read cpp row) l lists nesting at half (p.left - 1) (node_of δ) (region_of (Opened δ))
-          ∙ ap (grouped l) (below_due (region_of (Opened δ)) lists)
+          ∙ limited_group cpp row (read cpp row) l lists nesting at half (p.left - 1) (node_of δ) (region_of (Some δ))
+          ∙ ap (grouped l) (below_due (region_of (Some δ)) lists)
 
-      pub node_group : {now : TypeSyntaxParser} {n kn : ℕ} (tree ys zs : List ℕ) {buf : List ℕ} → Told row b.cursor 0 (region_due cpp row (region_of (Opened δ)) lists (nesting + 1) b) now n ys
+      pub node_group : {now : TypeSyntaxParser} {n kn : ℕ} (tree ys zs : List ℕ) {buf : List ℕ} → Told row b.cursor 0 (region_due cpp row (region_of (Some δ)) lists (nesting + 1) b) now n ys
           → kn ≡ number (node_of δ) → buf ≡ kn ∷ at ∷ (n + 1) ∷ drop node_width (take node_width tree ++ (ys ++ zs)) → node_width ≤ length tree
           → Found cpp row lists nesting after_identifier p now (n + 1) buf
       unfolding on_done started
@@ -160,14 +153,14 @@ module _ (cpp : Bool) (row : List ℕ) (lists nesting : ℕ) (after_identifier :
           (λ l b at' half' left' d. group_turn l ∙ ap (grouped l) d)
           tree ys zs told (past_cursor p _ entered) (omega arith) room q w
 
-      group_denied : (s : Stop) → Denied (region_due cpp row (region_of (Opened δ)) lists (nesting + 1) b) s → (l : Region) → Denied (node_due cpp row lists nesting after_identifier p l) s
+      group_denied : (s : Stop) → Denied (region_due cpp row (region_of (Some δ)) lists (nesting + 1) b) s → (l : Region) → Denied (node_due cpp row lists nesting after_identifier p l) s
       unfolding on_done
       group_denied (Refused x left) d l = group_turn l ∙ ap (grouped l) d
       group_denied Spent d l = group_turn l ∙ ap (grouped l) d
 
-      pub node_group_stops : {r : CodeReading.Reading} {s : Stop} {from : ℕ} {buf buf' : List ℕ} → r ≡ Stopped s → GroupAnswers row from (region_due cpp row (region_of (Opened δ)) lists (nesting + 1) b) r buf
-          → NodeAnswers cpp row lists nesting after_identifier p r buf'
-      node_group_stops {s = s} e h = node_stops_so e (group_denied s (group_stopped e h))
+      pub node_group_stops : {s : Stop} {from : ℕ} {buf buf' : List ℕ} → GroupAnswers row from (region_due cpp row (region_of (Some δ)) lists (nesting + 1) b) (Err s) buf
+          → NodeAnswers cpp row lists nesting after_identifier p (Err s) buf'
+      node_group_stops {s} h = record { says = group_denied s h.says }
 
     -- A list that is tried.
     module _ (e : started kind Start.Angle ≡ starts cpp after_identifier kind) where
@@ -218,12 +211,12 @@ module _ (cpp : Bool) (row : List ℕ) (lists nesting : ℕ) (after_identifier :
 
   -- A token by itself, as `parse_token` says it.
   node_token_says : (before buf : List ℕ) → started kind Start.Token ≡ starts cpp after_identifier kind → at < length row
-      → (r : CodeReading.Reading) → TokenSays p r before buf → NodeSays cpp row lists nesting after_identifier p r buf
+      → (r : Result NodesRead Stop) → TokenSays p r before buf → NodeSays cpp row lists nesting after_identifier p r buf
   unfolding number
-  node_token_says before buf e here (Done now n) h =
-      subst (λ (x : ℕ). Found cpp row lists nesting after_identifier p now x buf) (sym h.2) (node_token h.0 h.1 e here h.3)
-  node_token_says before buf e here (Stopped s) h = λ l. subst (λ (x : Stop). Denied (node_due cpp row lists nesting after_identifier p l) x) (sym h.1) (node_spends h.0 l)
+  node_token_says before buf e here (Ok r) h =
+      subst (λ (x : ℕ). Found cpp row lists nesting after_identifier p r.next x buf) (sym h.2) (node_token h.0 h.1 e here h.3)
+  node_token_says before buf e here (Err s) h = λ l. subst (λ (x : Stop). Denied (node_due cpp row lists nesting after_identifier p l) x) (sym h.1) (node_spends h.0 l)
 
-  pub node_by_token : {r : CodeReading.Reading} {before buf : List ℕ} → started kind Start.Token ≡ starts cpp after_identifier kind → at < length row
+  pub node_by_token : {r : Result NodesRead Stop} {before buf : List ℕ} → started kind Start.Token ≡ starts cpp after_identifier kind → at < length row
       → TokenAnswers p r before buf → NodeAnswers cpp row lists nesting after_identifier p r buf
   node_by_token {r} {before} {buf} e here h = record { says = node_token_says before buf e here r h.says }

@@ -1,10 +1,7 @@
 -- `main` is safe and ends. Assumes nothing.
-use Prim.Native.Nat.{◌≤◌, ◌-◌}
-use Rattle.replay.specs.Replay.{most_cases}
+use Prim.Native.Nat.{◌≤◌}
+use mathlib.Core.Path.{◌≡◌}
 use Rattle.replay.proofs.main.Given as goal
 
-abbrev pub invariant-loop-replayed : goal.invariant-loop-replayed
-invariant-loop-replayed l = (l.replayed ≤ most_cases) × (l.differing ≤ l.replayed)
-
-abbrev pub decreases-loop-replayed : goal.decreases-loop-replayed
-decreases-loop-replayed l = most_cases - l.replayed
+abbrev pub invariant-loop-case : goal.invariant-loop-case
+invariant-loop-case l = (l.replayed ≡ l.case) × (l.differing ≤ l.replayed)

@@ -1,34 +1,31 @@
 -- Which numbers the refusals of the file and of its records have.
 -- Assumes nothing.
-use Rattle.std.specs.Prelude.{ℕ, not, ◌&&◌, List, length, get_or, T, leb, ltb}
+use Rattle.std.specs.Prelude.{ℕ, not, ◌&&◌, List, length, get_or, T, leb, ltb, Option, Some, None, Result, Ok, Err}
 use Rattle.rows.specs.Format.{at_language, at_standard, meant}
 use Rattle.rows.specs.declared.format.Format.{Format}
 use Rattle.rows.specs.Records.{Tokens, malformed, tokens, Row, row, refused, head, head_formed, head_with, tokens_from, to_end, records_from}
 use Rattle.rows.specs.Refusals.{refusal_of}
 use Rattle.rows.specs.Laws.Tests.{by_if}
 use Rattle.rows.specs.declared.answer.TypeNameError.{TypeNameError}
-use Rattle.rows.specs.declared.head.Meaning.{Meaning}
-use Rattle.rows.specs.declared.head.Meaning.TheVariants.{Means, Unknown}
-use Rattle.rows.specs.declared.head.FileHead.{FileHead}
-use Rattle.rows.specs.declared.head.FileHead.TheVariants.{Formed, Refused}
+use Rattle.rows.specs.declared.head.Head.{Head}
 
 -- The refusal's number lies between two numbers.
 abbrev pub Between : (low high : ℕ) → TypeNameError → Type 0
 Between low high e = T (leb low (refusal_of e).number && leb (refusal_of e).number high)
 
-abbrev pub HeadNumbered : FileHead → Type 0
-HeadNumbered (Formed h) = Unit {0}
-HeadNumbered (Refused e) = Between 1 3 e
+abbrev pub HeadNumbered : Result Head TypeNameError → Type 0
+HeadNumbered (Ok h) = Unit {0}
+HeadNumbered (Err e) = Between 1 3 e
 
 abbrev pub RowNumbered : Row → Type 0
 RowNumbered (row ts) = Unit {0}
 RowNumbered (refused e) = Between 4 5 e
 
 module _ (f : Format) (file : List ℕ) where
-  with_numbered : (m : Meaning) → HeadNumbered (head_with f file m)
+  with_numbered : (m : Option ℕ) → HeadNumbered (head_with f file m)
   unfolding head_with
-  with_numbered Unknown = tt
-  with_numbered (Means s) = tt
+  with_numbered None = tt
+  with_numbered (Some s) = tt
 
   -- Refusals 1 to 3.
   pub head_numbered : HeadNumbered (head f file)

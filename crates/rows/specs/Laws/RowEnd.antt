@@ -1,5 +1,5 @@
 -- The row to the file's end, from the records that were read. Assumes nothing.
-use Rattle.std.specs.Prelude.{ℕ, ◌≤◌, ◌<◌, ◌≡◌, List, length}
+use Rattle.std.specs.Prelude.{ℕ, ◌≤◌, ◌<◌, ◌≡◌, List, length, Result, Ok, Err}
 use Rattle.std.proofs.Math.Path.{ap}
 use Rattle.std.proofs.Common.{subst, ◌∙◌, le-leb}
 use Rattle.std.proofs.lemmas.Bool.{lt-leb}
@@ -8,7 +8,7 @@ use Rattle.rows.specs.Records.{malformed, tokens_from, refused, to_end, records_
 use Rattle.rows.specs.RowRead.{RecordsTaken, RowTaken, RecordsAnswered, ReadsRecords}
 use Rattle.rows.specs.declared.answer.TypeNameError.TheVariants.{InvalidRecord, TooManyRecords}
 use Rattle.rows.specs.declared.row.RecordsRead.{RecordsRead}
-use Rattle.rows.specs.declared.row.RecordsRead.TheVariants as Read
+use Rattle.rows.specs.declared.row.MalformedRecord.{MalformedRecord}
 
 pub row_malformed : (f : Format) (file : List ℕ) (begin most : ℕ) {offset : ℕ} → tokens_from f file most begin ≡ malformed offset
     → records_from f file most begin ≡ refused (InvalidRecord offset)
@@ -17,13 +17,13 @@ row_malformed f file begin most e = ap (to_end f file) e
 
 module _ {f : Format} {file : List ℕ} {begin most : ℕ} {kinds words places kinds' words' places' : List ℕ} where
   -- What the code answers, by its cases.
-  pub taken_there : {r : RecordsRead} {count next : ℕ} → r ≡ Read.Tokens count next → ReadsRecords f file begin most kinds words places r kinds' words' places'
-      → RecordsTaken f file begin most kinds words places count next kinds' words' places'
-  taken_there q h = subst (λ (c : RecordsRead). RecordsAnswered f file begin most kinds words places c kinds' words' places') q h.answered
+  pub taken_there : {r : Result RecordsRead MalformedRecord} {read : RecordsRead} → r ≡ Ok read → ReadsRecords f file begin most kinds words places r kinds' words' places'
+      → RecordsTaken f file begin most kinds words places read.count read.next kinds' words' places'
+  taken_there q h = subst (λ (c : Result RecordsRead MalformedRecord). RecordsAnswered f file begin most kinds words places c kinds' words' places') q h.answered
 
-  pub malformed_there : {r : RecordsRead} {offset : ℕ} → r ≡ Read.Malformed offset → ReadsRecords f file begin most kinds words places r kinds' words' places'
-      → tokens_from f file most begin ≡ malformed offset
-  malformed_there q h = subst (λ (c : RecordsRead). RecordsAnswered f file begin most kinds words places c kinds' words' places') q h.answered
+  pub malformed_there : {r : Result RecordsRead MalformedRecord} {e : MalformedRecord} → r ≡ Err e → ReadsRecords f file begin most kinds words places r kinds' words' places'
+      → tokens_from f file most begin ≡ malformed e.offset
+  malformed_there q h = subst (λ (c : Result RecordsRead MalformedRecord). RecordsAnswered f file begin most kinds words places c kinds' words' places') q h.answered
 
   module _ {count next : ℕ} (t : RecordsTaken f file begin most kinds words places count next kinds' words' places') where
     pub row_too_long : next < length file → records_from f file most begin ≡ refused TooManyRecords

@@ -2,18 +2,17 @@
 use Prim.Native.Nat.{ℕ, zero, suc, ◌+◌, ◌-◌, ◌≤◌, ◌<◌}
 use Rattle.std.proofs.Math.Path.{◌≡◌, refl, subst}
 use Rattle.std.proofs.Common.{sym, arith}
-use Rattle.std.specs.Prelude.{Bool, true, false, not, T, leb}
+use Rattle.std.specs.Prelude.{Bool, true, false, not, T, leb, Option, Some, None}
 use mathlib.Core.List.{List, [], ◌∷◌}
 use Rattle.std.proofs.Math.ListN.{length}
 use Rattle.std.proofs.Math.Dec.{nleb→lt}
 use Rattle.rows.specs.Kinds.{Identifier, End}
 use Rattle.rows.specs.Format.{token_length}
 use Rattle.rows.specs.declared.format.Format.{Format}
-use Rattle.rows.specs.Records.{RowToken, Tokens, malformed, tokens, before_tokens, Row, refused, row, found, word_at, word_in, length_at, after_record, tokens_from, to_end, records_from}
+use Rattle.rows.specs.Records.{RowToken, Tokens, malformed, tokens, before_tokens, Row, refused, row, formed, found, word_at, word_in, length_at, after_record, tokens_from, to_end, records_from}
 use Rattle.rows.specs.Laws.Tests.{by_if}
 use Rattle.rows.specs.Laws.Tokens.{formed_fits, word_there}
 use Rattle.rows.specs.declared.token.TokenRecord.{TokenRecord}
-use Rattle.rows.specs.declared.token.TokenRecord.TheVariants.{Formed, Malformed}
 
 -- ---- the induction: what holds of no records and of a malformed one, and is kept by a token in front, holds of all records, n the most of them
 
@@ -25,14 +24,14 @@ module _ (f : Format) (file : List ℕ) where
   pub record Kept (P : (n : ℕ) → Tokens → Type 0) : Type 0 where
     pub of_none : (n at : ℕ) → P n (tokens [] at)
     pub of_malformed : (n at : ℕ) → at < length file → P n (malformed at)
-    pub of_token : (n at k size : ℕ) → found f file at ≡ Formed k size → (r : Tokens) → P n r → P (suc n) (before_tokens (token_there at k) r)
+    pub of_token : (n at k size : ℕ) → found f file at ≡ formed k size → (r : Tokens) → P n r → P (suc n) (before_tokens (token_there at k) r)
 
   module _ (P : (n : ℕ) → Tokens → Type 0) (kept : Kept P) where
-    after_kept : (n at : ℕ) → at < length file → (t : TokenRecord) → found f file at ≡ t → (rest : ℕ → Tokens) → ((next : ℕ) → P n (rest next))
+    after_kept : (n at : ℕ) → at < length file → (t : Option TokenRecord) → found f file at ≡ t → (rest : ℕ → Tokens) → ((next : ℕ) → P n (rest next))
         → P (suc n) (after_record f file at t rest)
     unfolding after_record
-    after_kept n at l Malformed e rest p = kept.of_malformed (suc n) at l
-    after_kept n at l (Formed k size) e rest p = kept.of_token n at k size e (rest (at + size)) (p (at + size))
+    after_kept n at l None e rest p = kept.of_malformed (suc n) at l
+    after_kept n at l (Some r) e rest p = kept.of_token n at r.kind r.length e (rest (at + r.length)) (p (at + r.length))
 
     by_end : (n at : ℕ) (b : Bool) (r : Tokens) → (T (not b) → P n r) → P n (elim b as (λ _. Tokens) [ true ↦ tokens [] at | false ↦ r ])
     by_end n at true r p = kept.of_none n at
@@ -103,7 +102,7 @@ before_inside file n t (malformed offset) p = p
 before_inside file n t (tokens ts next) p = tt
 
 module _ (f : Format) (file : List ℕ) where
-  good_token : (at k n : ℕ) → found f file at ≡ Formed k n → GoodToken (token_there f file at k)
+  good_token : (at k n : ℕ) → found f file at ≡ formed k n → GoodToken (token_there f file at k)
   unfolding word_at
   good_token at k n e =
       let fit = formed_fits f file at k n e in
@@ -153,7 +152,7 @@ module _ (f : Format) (file : List ℕ) where
   unfolding before_tokens
   words_kept = record { of_none = λ n at. tt; of_malformed = λ n at l. tt; of_token = before }
     where
-      before : (n at k size : ℕ) → found f file at ≡ Formed k size → (r : Tokens) → Words f file n r → Words f file (suc n) (before_tokens (token_there f file at k) r)
+      before : (n at k size : ℕ) → found f file at ≡ formed k size → (r : Tokens) → Words f file n r → Words f file (suc n) (before_tokens (token_there f file at k) r)
       before n at k size e (malformed offset) p = tt
       before n at k size e (tokens ts next) p = (sym (word_there f file at k size e), p)
 

@@ -1,7 +1,7 @@
 -- The row record by record, and arrays that are filled from the front: what the loop of the row reader keeps.
 -- Assumes nothing.
 use Prim.Native.Nat.{ℕ, zero, suc, ◌+◌, ◌-◌, ◌≤◌, ◌<◌}
-use Rattle.std.specs.Prelude.{◌≡◌, Bool, true, false, length, take, drop, set, leb}
+use Rattle.std.specs.Prelude.{◌≡◌, Bool, true, false, length, take, drop, set, leb, Option, None}
 use Rattle.std.proofs.Math.Path.{refl, sym, ap}
 use Rattle.std.proofs.Common.{◌∙◌, true≢false, add-one, le-leb, length-set, take-suc-set, drop-set-lt, drop-drop}
 use mathlib.Core.List.{List, [], ◌∷◌, ◌++◌, map-append}
@@ -12,11 +12,10 @@ use Rattle.std.proofs.lemmas.List.{length-map}
 use Rattle.rows.specs.Words.{word_number}
 use Rattle.rows.specs.Format.{token_length}
 use Rattle.rows.specs.declared.format.Format.{Format}
-use Rattle.rows.specs.Records.{RowToken, Tokens, malformed, tokens, before_tokens, found, word_at, after_record, tokens_from, kinds_of, words_of, places_of}
+use Rattle.rows.specs.Records.{RowToken, Tokens, malformed, tokens, before_tokens, formed, found, word_at, after_record, tokens_from, kinds_of, words_of, places_of}
 use Rattle.rows.specs.RowRead.{Room, Filled, RecordsTaken}
 use Rattle.rows.specs.Laws.Tokens.{formed_fits, word_part}
 use Rattle.rows.specs.declared.token.TokenRecord.{TokenRecord}
-use Rattle.rows.specs.declared.token.TokenRecord.TheVariants.{Formed, Malformed}
 
 -- ---- records
 
@@ -51,21 +50,21 @@ module _ (f : Format) (file : List ℕ) where
   ends zero at p = refl
   ends (suc most) at p = rw (le-leb (length file) at p, tokens_from) refl
 
-  begins : (most at : ℕ) (r : TokenRecord) → at < length file → found f file at ≡ r
+  begins : (most at : ℕ) (r : Option TokenRecord) → at < length file → found f file at ≡ r
       → tokens_from f file (suc most) at ≡ after_record f file at r (λ next. tokens_from f file most next)
   unfolding tokens_from
   begins most at r p e =
       first (leb (length file) at) (lt-leb (length file) at p) (after_record f file at (found f file at) (λ next. tokens_from f file most next)) (tokens [] at)
-      ∙ ap (λ (t : TokenRecord). after_record f file at t (λ next. tokens_from f file most next)) e
+      ∙ ap (λ (t : Option TokenRecord). after_record f file at t (λ next. tokens_from f file most next)) e
 
-  pub begins_malformed : (most at : ℕ) → at < length file → found f file at ≡ Malformed → tokens_from f file (suc most) at ≡ malformed at
+  pub begins_malformed : (most at : ℕ) → at < length file → found f file at ≡ None → tokens_from f file (suc most) at ≡ malformed at
   unfolding after_record
-  begins_malformed most at p e = begins most at Malformed p e
+  begins_malformed most at p e = begins most at None p e
 
-  pub begins_token : (most at k n : ℕ) → at < length file → found f file at ≡ Formed k n
+  pub begins_token : (most at k n : ℕ) → at < length file → found f file at ≡ formed k n
       → tokens_from f file (suc most) at ≡ before_tokens (record { place = at; kind = k; word = word_at f file at }) (tokens_from f file most (at + n))
   unfolding after_record
-  begins_token most at k n p e = begins most at (Formed k n) p e
+  begins_token most at k n p e = begins most at (formed k n) p e
 
 -- ---- arrays
 
@@ -143,12 +142,12 @@ module _ {f : Format} {file : List ℕ} {begin most : ℕ} {kinds₀ words₀ pl
   pub loop_ends : length file ≤ at → RecordsTaken f file begin most kinds₀ words₀ places₀ count at kinds words places
   loop_ends p = stops_there (ends f file (most - count) at p)
 
-  pub loop_malformed : at < length file → (count ≡ most → ⊥) → found f file at ≡ Malformed → tokens_from f file most begin ≡ malformed at
+  pub loop_malformed : at < length file → (count ≡ most → ⊥) → found f file at ≡ None → tokens_from f file most begin ≡ malformed at
   loop_malformed p d e =
       let more : most - count ≡ suc (most - (count + 1)) = omega (arith, s.few, d) in
       s.is ∙ rw more (ap (onto s.done) (begins_malformed f file (most - (count + 1)) at p e)) ∙ onto_malformed s.done at
 
-  pub loop_token : Room file most kinds₀ words₀ places₀ → at < length file → (count ≡ most → ⊥) → (k n : ℕ) → found f file at ≡ Formed k n
+  pub loop_token : Room file most kinds₀ words₀ places₀ → at < length file → (count ≡ most → ⊥) → (k n : ℕ) → found f file at ≡ formed k n
       → (w : ℕ) → w ≡ word_number (take (at + n - (at + token_length f)) (drop (at + token_length f) file))
       → RowLoop f file begin most kinds₀ words₀ places₀ (set kinds count k) (set words count w) (set places count at) (at + n) (count + 1)
   unfolding kinds_of words_of places_of

@@ -1,6 +1,6 @@
 -- Token records as code reads them: a word byte by byte, a record test by test.
 -- Assumes nothing.
-use Rattle.std.specs.Prelude.{ℕ, ◌+◌, ◌-◌, ◌≤◌, ◌<◌, Bool, ◌&&◌, List, [], ◌∷◌, ◌++◌, get_or, take, drop, ltb, eqb, if◌then◌else◌}
+use Rattle.std.specs.Prelude.{ℕ, ◌+◌, ◌-◌, ◌≤◌, ◌<◌, Bool, ◌&&◌, List, [], ◌∷◌, ◌++◌, get_or, take, drop, ltb, eqb, if◌then◌else◌, Option, Some, None}
 use Rattle.std.proofs.Math.Path.{◌≡◌, refl, sym, ap}
 use Rattle.std.proofs.Common.{◌∙◌, add-one, drop_of_length-le, take-append-drop, length-drop, drop-cons, drop-drop, take-add, take_all}
 use Rattle.std.proofs.Math.Bool.{true, false}
@@ -12,10 +12,9 @@ use Rattle.std.proofs.Math.Facts.{and_yes}
 use Rattle.rows.specs.Kinds.{Identifier, End}
 use Rattle.rows.specs.Format.{token_length, longest_word, least_word_byte, greatest_word_byte}
 use Rattle.rows.specs.declared.format.Format.{Format}
-use Rattle.rows.specs.Records.{in_range, length_at, kind_at, span_start_at, span_end_at, word_at, word_fits, length_fits, well_formed, found, word_in}
+use Rattle.rows.specs.Records.{in_range, length_at, kind_at, span_start_at, span_end_at, word_at, word_fits, length_fits, well_formed, formed, found, word_in}
 use Rattle.rows.specs.Laws.Tests.{by_if, and_true}
 use Rattle.rows.specs.declared.token.TokenRecord.{TokenRecord}
-use Rattle.rows.specs.declared.token.TokenRecord.TheVariants.{Formed, Malformed}
 
 -- ---- a word: `fits` of its first i bytes
 
@@ -47,16 +46,8 @@ unfolding in_range
 in_range_append [] w = refl
 in_range_append (b ∷ v) w = rw (in_range_append v w) (sym (and_assoc (leb least_word_byte b && leb b greatest_word_byte) (in_range v) (in_range w)))
 
-pub one_byte : (w : List ℕ) (at : ℕ) → at < length w → (leb least_word_byte (get_or w at 0) && leb (get_or w at 0) greatest_word_byte) ≡ in_range (take 1 (drop at w))
-unfolding in_range
-one_byte w at h = rw (drop-cons w at 0 h) (sym (and_true (leb least_word_byte (get_or w at 0) && leb (get_or w at 0) greatest_word_byte)))
-
 halves : (v : List ℕ) (m n : ℕ) → (in_range (take m v) && in_range (take n (drop m v))) ≡ in_range (take (m + n) v)
 halves v m n = sym (ap in_range (take-add m n v) ∙ in_range_append (take m v) (take n (drop m v)))
-
--- Two groups that meet are one.
-pub groups_meet : (w : List ℕ) (at m n : ℕ) → (in_range (take m (drop at w)) && in_range (take n (drop (at + m) w))) ≡ in_range (take (m + n) (drop at w))
-groups_meet w at m n = rw (drop-drop m at w) at (halves (drop at w) m n)
 
 -- What two groups share counts once.
 shared : (a b c : Bool) → ((a && b) && (b && c)) ≡ ((a && b) && c)
@@ -74,11 +65,13 @@ overlapping w a d =
     cc (shared (in_range (take a w)) (in_range (take d (drop a w))) (in_range (drop (a + d) w)))
 
 -- The first m bytes and the last k are all bytes; they may overlap.
-pub groups_cover : (w : List ℕ) (m k : ℕ) → k ≤ length w → length w ≤ m + k → (in_range (take m w) && in_range (take k (drop (length w - k) w))) ≡ in_range w
+pub groups_cover : (w : List ℕ) (m k : ℕ) → k ≤ length w → length w ≤ m + k
+    → (in_range (take m w) && in_range (take (length w - (length w - k)) (drop (length w - k) w))) ≡ in_range w
 groups_cover w m k few cover =
+    let whole : length w - (length w - k) ≡ k = omega arith in
     let last : take k (drop (length w - k) w) ≡ drop (length w - k) w = take_all k (drop (length w - k) w) (simp length-drop (omega arith)) in
     let size : length w - k + (m - (length w - k)) ≡ m = omega arith in
-    rw last (rw size at (overlapping w (length w - k) (m - (length w - k))))
+    rw (whole, last) (rw size at (overlapping w (length w - k) (m - (length w - k))))
 
 -- ---- a record of length n and kind k, test by test
 
@@ -111,23 +104,23 @@ module _ (f : Format) (file : List ℕ) (at : ℕ) (n : ℕ) (is_length : n ≡ 
     unfolding length_fits
     sign_fits e = rw (← is_kind, ne_eqb k Identifier e, ← is_length) refl
 
-    pub cut_off : length file < at + token_length f → Malformed ≡ found f file at
+    pub cut_off : length file < at + token_length f → None ≡ found f file at
     unfolding found well_formed
     cut_off p = sym (rw (lt-leb (at + token_length f) (length file) p) refl)
 
     module _ (whole : at + token_length f ≤ length file) where
-      pub kind_too_great : End < k → Malformed ≡ found f file at
+      pub kind_too_great : End < k → None ≡ found f file at
       unfolding found well_formed
       kind_too_great p = sym (rw (le-leb (at + token_length f) (length file) whole, ← is_kind, lt-leb k End p) refl)
 
       module _ (known : k ≤ End) where
-        pub span_reversed : span_end_at f file at < span_start_at f file at → Malformed ≡ found f file at
+        pub span_reversed : span_end_at f file at < span_start_at f file at → None ≡ found f file at
         unfolding found well_formed
         span_reversed p =
             sym (rw (le-leb (at + token_length f) (length file) whole, ← is_kind, le-leb k End known, lt-leb (span_start_at f file at) (span_end_at f file at) p) refl)
 
         pub by_length : span_start_at f file at ≤ span_end_at f file at → (b : Bool) → b ≡ length_fits f file at
-            → (if b then Formed k n else Malformed) ≡ found f file at
+            → (if b then formed k n else None) ≡ found f file at
         unfolding found well_formed
         by_length p b e =
             rw (e, is_kind, is_length, le-leb (at + token_length f) (length file) whole, le-leb (kind_at f file at) End (rw is_kind at known), le-leb (span_start_at f file at) (span_end_at f file at) p) refl
@@ -142,17 +135,17 @@ pub record Fits (f : Format) (file : List ℕ) (at k n : ℕ) : Type 0 where
   pub inside : at + n ≤ length file
   pub wordless : (k ≡ Identifier → ⊥) → n ≡ token_length f
 
-abbrev kind_in : TokenRecord → ℕ
-kind_in (Formed k n) = k
-kind_in Malformed = 0
+abbrev kind_in : Option TokenRecord → ℕ
+kind_in (Some r) = r.kind
+kind_in None = 0
 
-abbrev length_in : TokenRecord → ℕ
-length_in (Formed k n) = n
-length_in Malformed = 0
+abbrev length_in : Option TokenRecord → ℕ
+length_in (Some r) = r.length
+length_in None = 0
 
-abbrev is_formed : TokenRecord → ℕ
-is_formed (Formed k n) = 1
-is_formed Malformed = 0
+abbrev is_formed : Option TokenRecord → ℕ
+is_formed (Some r) = 1
+is_formed None = 0
 
 module _ (f : Format) (file : List ℕ) (at : ℕ) where
   -- the length of a record that fits its kind
@@ -173,7 +166,7 @@ module _ (f : Format) (file : List ℕ) (at : ℕ) where
   unfolding length_fits
   plain_length t d = eqb→eq (length_at f file at) (token_length f) (rw (ne_eqb (kind_at f file at) Identifier d) at t)
 
-  formed_fits' : (b : Bool) → well_formed f file at ≡ b → (k n : ℕ) → (if b then Formed (kind_at f file at) (length_at f file at) else Malformed) ≡ Formed k n → Fits f file at k n
+  formed_fits' : (b : Bool) → well_formed f file at ≡ b → (k n : ℕ) → (if b then formed (kind_at f file at) (length_at f file at) else None) ≡ formed k n → Fits f file at k n
   unfolding well_formed
   formed_fits' false w k n e = let clash : ◌≡◌ {A = ℕ} 0 1 = ap is_formed e in absurd (omega (arith, clash))
   formed_fits' true w k n e =
@@ -193,22 +186,22 @@ module _ (f : Format) (file : List ℕ) (at : ℕ) where
         wordless = λ d. sym same_length ∙ plain_length u.1 (λ q. d (sym same_kind ∙ q));
       }
 
-  pub formed_fits : (k n : ℕ) → found f file at ≡ Formed k n → Fits f file at k n
+  pub formed_fits : (k n : ℕ) → found f file at ≡ formed k n → Fits f file at k n
   unfolding found
   formed_fits k n e = formed_fits' (well_formed f file at) refl k n e
 
   -- The word of a well-formed record as a part of the file.
-  pub word_part : (k n : ℕ) → found f file at ≡ Formed k n → take (at + n - (at + token_length f)) (drop (at + token_length f) file) ≡ word_at f file at
+  pub word_part : (k n : ℕ) → found f file at ≡ formed k n → take (at + n - (at + token_length f)) (drop (at + token_length f) file) ≡ word_at f file at
   unfolding word_at
   word_part k n e =
       let fit = formed_fits k n e in
       let size : at + n - (at + token_length f) ≡ length_at f file at - token_length f = omega (arith, fit.is_length) in
       rw size refl
 
-  pub word_there : (k n : ℕ) → found f file at ≡ Formed k n → word_at f file at ≡ word_in f file at (found f file at)
+  pub word_there : (k n : ℕ) → found f file at ≡ formed k n → word_at f file at ≡ word_in f file at (found f file at)
   unfolding word_in
   word_there k n e = rw e refl
 
-  pub no_word_there : found f file at ≡ Malformed → [] ≡ word_in f file at (found f file at)
+  pub no_word_there : found f file at ≡ None → [] ≡ word_in f file at (found f file at)
   unfolding word_in
   no_word_there e = rw e refl

@@ -1,4 +1,5 @@
 -- After every pair of numbers there is a first pair of rules that overlap, or none: every call has an answer. Assumes nothing.
+use Rattle.rule_answers.specs.OverlapAnswer.{no_further, overlap_refuses, OverlapAnswer}
 use Rattle.std.specs.Prelude.{ℕ, zero, suc, ◌+◌, ◌≤◌, ◌<◌, ◌≡◌, refl, ◌⊎◌, Bool, true, false, List, length, replicate, T}
 use Rattle.std.proofs.Common.{sym, subst, inl, inr, ⊎_elim, arith, lt_of_not-le}
 use Rattle.std.proofs.Math.Decide.{dec_le}
@@ -14,8 +15,6 @@ use Rattle.rule_answers.specs.OverlapAnswers.{shown_bytes, Reports, OverlapSays,
 use Rattle.rule_answers.specs.OverlapWalks.{CallsAnswered}
 use Rattle.rule_answers.specs.OverlapSays.{pair_answer}
 use Rattle.rule_answers.specs.Laws.Overlaps.{items_good, pair_reports}
-use Rattle.rule_answers.specs.declared.overlap.OverlapAnswer.{OverlapAnswer}
-use Rattle.rule_answers.specs.declared.overlap.OverlapAnswer.TheVariants.{NoFurther, Refused}
 
 -- The pair (i, j) is not before (e, from).
 abbrev From : (e from i j : ℕ) → Type 0
@@ -83,14 +82,14 @@ module _ (rs : List Rule) (good : (k : ℕ) → k < length rs → T (good_items 
       by (first i j p f least) =
           let one : FirstAfter rs e l i j = record { pair = p; after = after i j f; first = λ i' j' p' f'. least i' j' p' (behind i' j' f') } in
           (pair_answer i j (shown_bytes rs i j) before, handed (shown_bytes rs i j) before, pair_reports one (record { answered = refl; shows = refl }))
-      by (none n) = (NoFurther, before, ((λ i j p f. n i j p (behind i j f)), refl))
+      by (none n) = (no_further, before, ((λ i j p f. n i j p (behind i j f)), refl))
 
 -- Every call has an answer.
 pub some_answer : (rules : List ℕ) (e l : ℕ) (before : List ℕ) → (a : OverlapAnswer) × (after : List ℕ) × OverlapTold rules e l before a after
 some_answer rules e l before = by (table_of rules) refl
   where
     by : (x : TableFound) → table_of rules ≡ x → (a : OverlapAnswer) × (after : List ℕ) × OverlapTold rules e l before a after
-    by no_table q = (Refused InvalidRuleTable, before, record { says = subst (λ (x : TableFound). OverlapSays x e l before (Refused InvalidRuleTable) before) (sym q) (refl, refl) })
+    by no_table q = (overlap_refuses InvalidRuleTable, before, record { says = subst (λ (x : TableFound). OverlapSays x e l before (overlap_refuses InvalidRuleTable) before) (sym q) (refl, refl) })
     by (a_table rs) q =
         let s = some_report rs (items_good rules q) e l before in
         (s.0, s.1, record { says = subst (λ (x : TableFound). OverlapSays x e l before s.0 s.1) (sym q) s.2 })

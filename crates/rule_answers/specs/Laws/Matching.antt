@@ -1,5 +1,7 @@
 -- From what `parse_type_name` answers to the answer of a match. Assumes nothing.
-use Rattle.std.specs.Prelude.{ℕ, ◌*◌, ◌≤◌, ◌<◌, ◌≡◌, Bool, true, false, List, length, take, replicate, leb, eqb}
+use Rattle.rule_answers.specs.MatchAnswer.{matches_with, match_refuses, MatchAnswer}
+use Rattle.rows.specs.Answer.{accepted_with, refused_with, Answer}
+use Rattle.std.specs.Prelude.{ℕ, ◌*◌, ◌≤◌, ◌<◌, ◌≡◌, Bool, true, false, List, length, take, replicate, leb, eqb, Err, Ok}
 use Rattle.std.proofs.Math.Path.{refl}
 use Rattle.std.proofs.Common.{sym, ap, ◌∙◌, subst, arith, leb-true, leb-false}
 use Rattle.std.proofs.Math.ListN.{length-map}
@@ -8,7 +10,6 @@ use Rattle.rows.specs.Languages.{Cpp}
 use Rattle.rows.specs.Records.{RowToken, kinds_of}
 use Rattle.rows.specs.Refusals.{refusal_of}
 use Rattle.rows.specs.Laws.RowFacts.{good_row, few_tokens}
-use Rattle.rows.specs.declared.answer.Answer.{Answer}
 use Rattle.rows.specs.declared.answer.TypeNameError.{TypeNameError}
 use Rattle.rows.specs.declared.answer.TypeNameError.TheVariants.{InvalidRuleTable, NoRuleMatches}
 use Rattle.reader.specs.Nodes.{Nodes, count, node_width, records}
@@ -39,7 +40,6 @@ use Rattle.rule_answers.specs.MatchPromises.{AcceptedTree, MatchPromised}
 use Rattle.rule_answers.specs.MatchSays.{TreeLeft, AnswerLeft, WinnerSays, left_by}
 use Rattle.rule_answers.specs.RowPlaces.{PlacesReady, PlacesRead}
 use Rattle.rule_answers.specs.Laws.Promised.{match_promised, accepted_match, late_zeros, passed_in, tree_in}
-use Rattle.rule_answers.specs.declared.matching.MatchAnswer.{MatchAnswer}
 
 -- ---- an accepted file
 
@@ -94,8 +94,8 @@ same_tree {x = x} a b = ap (λ (o : _). tree_in (passed_in o (accepted x 0)) x) 
 
 -- The answer to an accepted row, by its winner.
 abbrev winner_answer : (nodes steps : ℕ) → Winner → MatchAnswer
-winner_answer nodes steps no_winner = MatchAnswer.Refused NoRuleMatches steps
-winner_answer nodes steps (wins place) = MatchAnswer.Matched nodes steps place
+winner_answer nodes steps no_winner = match_refuses NoRuleMatches steps
+winner_answer nodes steps (wins place) = matches_with nodes steps place
 
 won_answer : (x : Nodes) (m : ℕ) (w : Winner) → match_in (passes (by_winner x m w)) ≡ winner_answer (count x) m w
 unfolding match_in by_winner
@@ -157,14 +157,14 @@ module _ (file rules tree : List ℕ) {a : Answer} (l : AnswerLeft file tree a) 
   abbrev defined : MatchPromised file rules tree (match_answer file rules (length tree)) (match_buffer file rules tree)
   defined = match_promised file rules tree _ _ refl refl
 
-  pub table_refused : table_of rules ≡ no_table → MatchAnswer.Refused InvalidRuleTable 0 ≡ match_answer file rules (length tree)
+  pub table_refused : table_of rules ≡ no_table → match_refuses InvalidRuleTable 0 ≡ match_answer file rules (length tree)
   table_refused q = sym ((defined.refused_table (λ e m p. l.late e m (l.answered ∙ p))).0 q)
 
   module _ {rs : List Rule} (t : table_of rules ≡ a_table rs) where
-    pub row_refused : {e : TypeNameError} {m : ℕ} → a ≡ Answer.Refused e m → MatchAnswer.Refused e m ≡ match_answer file rules (length tree)
+    pub row_refused : {e : TypeNameError} {m : ℕ} → a ≡ refused_with e m → match_refuses e m ≡ match_answer file rules (length tree)
     row_refused {e} {m} q = sym (defined.refused_row rs t e m (sym l.answered ∙ q)).0
 
-    pub row_accepted : {nodes steps : ℕ} {r : MatchAnswer} → a ≡ Answer.Accepted nodes steps → WinnerSays rules file (length tree) steps r → r ≡ match_answer file rules (length tree)
+    pub row_accepted : {nodes steps : ℕ} {r : MatchAnswer} → a ≡ accepted_with nodes steps → WinnerSays rules file (length tree) steps r → r ≡ match_answer file rules (length tree)
     row_accepted {nodes} {steps} q w =
         let left = l.left nodes steps q in
         w.says rs t left.tokens left.the_tree left.accepted_tree ∙ sym (accepted_match file rules tree t left.accepted_tree)
@@ -173,15 +173,15 @@ module _ (file rules tree : List ℕ) {a : Answer} (l : AnswerLeft file tree a) 
 
 module _ (file rules before : List ℕ) {a : Answer} {tree : List ℕ} (p : Promised file before a tree) (long : length tree ≡ length before) where
   -- A refusal up to 6: neither entry touches the buffer.
-  pub early_told : {e : TypeNameError} {m : ℕ} → a ≡ Answer.Refused e m → leb (refusal_of e).number last_untouched ≡ true
-      → MatchPromised file rules before (MatchAnswer.Refused e m) tree
+  pub early_told : {e : TypeNameError} {m : ℕ} → a ≡ refused_with e m → leb (refusal_of e).number last_untouched ≡ true
+      → MatchPromised file rules before (match_refuses e m) tree
   early_told {e} {m} q s =
       let small = leb-true (refusal_of e).number last_untouched s in
-      let read : answer file (length before) ≡ Answer.Refused e m = sym p.answered ∙ q in
+      let read : answer file (length before) ≡ refused_with e m = sym p.answered ∙ q in
       let d = (match_promised file rules before _ _ refl refl).first_refusals e m read small in
       match_promised file rules before _ _ (sym d.0) (p.buffered ∙ (refused_buffer file before e m read).kept small ∙ sym d.1)
 
-  tree_left : (nodes steps : ℕ) → a ≡ Answer.Accepted nodes steps → TreeLeft file tree nodes steps
+  tree_left : (nodes steps : ℕ) → a ≡ accepted_with nodes steps → TreeLeft file tree nodes steps
   tree_left nodes steps q =
       let h = p.tree_defined nodes steps q in
       let many : count h.tree ≡ nodes = ap nodes_in (sym h.accepted_as.answered ∙ q) in
@@ -193,14 +193,14 @@ module _ (file rules before : List ℕ) {a : Answer} {tree : List ℕ} (p : Prom
         written = ap (λ (k : ℕ). take k tree) (ap (λ (k : ℕ). node_width * k) (sym many) ∙ sym (three_each h.tree)) ∙ h.accepted_as.tree_held;
       }
 
-  module _ (late : (e : TypeNameError) (m : ℕ) → a ≡ Answer.Refused e m → last_untouched < (refusal_of e).number) where
+  module _ (late : (e : TypeNameError) (m : ℕ) → a ≡ refused_with e m → last_untouched < (refusal_of e).number) where
     pub answer_left : AnswerLeft file tree a
     answer_left = record { answered = p.answered ∙ ap (answer file) (sym long); late = late; left = tree_left }
 
     left_told : (r : MatchAnswer) → r ≡ match_answer file rules (length before) → left_by tree r ≡ match_buffer file rules before
-    left_told (MatchAnswer.Matched nodes steps place) q =
-        p.buffered ∙ sym ((match_promised file rules before _ _ refl refl).won nodes steps place (sym q)).as_read
-    left_told (MatchAnswer.Refused e m) q =
+    left_told (Ok m) q =
+        p.buffered ∙ sym ((match_promised file rules before _ _ refl refl).won m.nodes m.steps m.place (sym q)).as_read
+    left_told (Err r) q =
         ap (λ (k : ℕ). replicate {A = ℕ} k 0) long ∙ sym (late_zeros file rules before (λ f n s. late f n (p.answered ∙ s)) (sym q))
 
     pub match_told : {r : MatchAnswer} {after : List ℕ} → r ≡ match_answer file rules (length tree) → after ≡ left_by tree r → MatchPromised file rules before r after
@@ -209,9 +209,9 @@ module _ (file rules before : List ℕ) {a : Answer} {tree : List ℕ} (p : Prom
         match_promised file rules before _ _ is (s ∙ left_told r is)
 
 -- An accepted answer is no refusal; a refusal of another number comes late.
-pub accepted_late : {a : Answer} {nodes steps : ℕ} → a ≡ Answer.Accepted nodes steps → (e : TypeNameError) (m : ℕ) → a ≡ Answer.Refused e m → last_untouched < (refusal_of e).number
+pub accepted_late : {a : Answer} {nodes steps : ℕ} → a ≡ accepted_with nodes steps → (e : TypeNameError) (m : ℕ) → a ≡ refused_with e m → last_untouched < (refusal_of e).number
 accepted_late q e m p = let clash : ◌≡◌ {A = ℕ} 0 1 = ap is_refused (sym q ∙ p) in absurd (omega (arith, clash))
 
-pub refused_late : {a : Answer} {e : TypeNameError} {m : ℕ} → a ≡ Answer.Refused e m → leb (refusal_of e).number last_untouched ≡ false
-    → (e' : TypeNameError) (n : ℕ) → a ≡ Answer.Refused e' n → last_untouched < (refusal_of e').number
+pub refused_late : {a : Answer} {e : TypeNameError} {m : ℕ} → a ≡ refused_with e m → leb (refusal_of e).number last_untouched ≡ false
+    → (e' : TypeNameError) (n : ℕ) → a ≡ refused_with e' n → last_untouched < (refusal_of e').number
 refused_late {e = e} q s e' n p = omega (arith, leb-false (refusal_of e).number last_untouched s, ap number_in (sym q ∙ p))

@@ -1,5 +1,8 @@
 -- The answer to one call for a pair of rules that overlap. Assumes nothing.
-use Rattle.std.specs.Prelude.{ℕ, ◌+◌, ◌≤◌, ◌<◌, ◌≡◌, ◌⊎◌, ◌↔◌, Bool, true, List, ◌++◌, map, length, get_or, take, T}
+use Rattle.rules.specs.declared.pairs.PairPlaces.{PairPlaces}
+use Rattle.rules.specs.TableStands.{pair}
+use Rattle.rule_answers.specs.OverlapAnswer.{overlaps, no_further, overlap_refuses, OverlapAnswer}
+use Rattle.std.specs.Prelude.{ℕ, ◌+◌, ◌≤◌, ◌<◌, ◌≡◌, ◌⊎◌, ◌↔◌, Bool, true, List, ◌++◌, map, length, get_or, take, T, Err, None, Ok, Option, Some}
 use Rattle.std.proofs.Math.Path.{refl, ap, subst}
 use Rattle.std.proofs.Common.{sym, ◌∙◌, inl, inr, arith, take_at, drop_at, le-leb}
 use Rattle.std.proofs.Math.Bool.{false}
@@ -15,7 +18,6 @@ use Rattle.rules.specs.RuleTable.{TableFound, no_table, a_table, at_items, table
 use Rattle.rules.specs.Overlaps.{shown, items_bytes, longest_shown, rule, Pair, FirstAfter, NoneAfter}
 use Rattle.rules.specs.ItemsStand.{OfRules}
 use Rattle.rules.specs.TableStands.{RulesRead, OfTable, PairTold}
-use Rattle.rules.specs.declared.pairs.PairFound.{PairFound}
 use Rattle.rules.specs.Laws.Overlaps.{node_of, takes_nodes, nodes_good, shown_good, overlap_meets, none_shorter, exactly_shown}
 use Rattle.rules.specs.Laws.Meeting.{items_there}
 use Rattle.rules.specs.Laws.Pairs.{stand_good, of_table, stands_at}
@@ -24,20 +26,18 @@ use Rattle.rule_answers.specs.OverlapAnswers.{shown_items, shown_bytes, TooShort
 use Rattle.rule_answers.specs.OverlapWalks.{NextPair}
 use Rattle.rule_answers.specs.OverlapSays.{PairShown}
 use Rattle.rule_answers.specs.Laws.Tables.{rules_there}
-use Rattle.rule_answers.specs.declared.overlap.OverlapAnswer.{OverlapAnswer}
-use Rattle.rule_answers.specs.declared.overlap.OverlapAnswer.TheVariants.{Overlap, NoFurther, Refused}
 
 -- ---- the rules at two places are shown
 
 module _ {rs : List Rule} {before after : List ℕ} {i j : ℕ} where
-  pub pair_fits : {n : ℕ} → n ≡ length (shown_bytes rs i j) → n ≤ length before → after ≡ shown_bytes rs i j ++ drop n before → PairShown rs i j before (Overlap i j n) after
+  pub pair_fits : {n : ℕ} → n ≡ length (shown_bytes rs i j) → n ≤ length before → after ≡ shown_bytes rs i j ++ drop n before → PairShown rs i j before (overlaps i j n) after
   unfolding fits handed
   pair_fits {n} e p h = record {
-    answered = rw (le-leb (length (shown_bytes rs i j)) (length before) (omega arith)) (ap (λ (m : ℕ). Overlap i j m) e);
+    answered = rw (le-leb (length (shown_bytes rs i j)) (length before) (omega arith)) (ap (λ (m : ℕ). overlaps i j m) e);
     shows = rw (le-leb (length (shown_bytes rs i j)) (length before) (omega arith)) (h ∙ ap (λ (m : ℕ). shown_bytes rs i j ++ drop m before) e);
   }
 
-  pub pair_short : length before < length (shown_bytes rs i j) → after ≡ before → PairShown rs i j before (Refused ShortBuffer) after
+  pub pair_short : length before < length (shown_bytes rs i j) → after ≡ before → PairShown rs i j before (overlap_refuses ShortBuffer) after
   unfolding fits handed
   pair_short p h = record {
     answered = rw (lt-leb (length (shown_bytes rs i j)) (length before) p) refl;
@@ -68,14 +68,14 @@ module _ (table : List ℕ) {count : ℕ} {starts : List ℕ} (t : RulesRead tab
       shown_handed : after ≡ handed (shown_bytes t.rules i j) before
       shown_handed = h ∙ ap (λ (l : List ℕ). handed l before) put.says
 
-      pub pair_handed : b ≡ true → OfTable table (λ rs. PairShown rs i j before (Overlap i j n) after)
-      pair_handed e = of_table table t {P = λ rs. PairShown rs i j before (Overlap i j n) after} (record {
-        answered = rw (shown_fits, e) (ap (λ (m : ℕ). Overlap i j m) (omega (arith, put.counts)));
+      pub pair_handed : b ≡ true → OfTable table (λ rs. PairShown rs i j before (overlaps i j n) after)
+      pair_handed e = of_table table t {P = λ rs. PairShown rs i j before (overlaps i j n) after} (record {
+        answered = rw (shown_fits, e) (ap (λ (m : ℕ). overlaps i j m) (omega (arith, put.counts)));
         shows = shown_handed;
       })
 
-      pub pair_refused : b ≡ false → OfTable table (λ rs. PairShown rs i j before (Refused ShortBuffer) after)
-      pair_refused e = of_table table t {P = λ rs. PairShown rs i j before (Refused ShortBuffer) after} (record {
+      pub pair_refused : b ≡ false → OfTable table (λ rs. PairShown rs i j before (overlap_refuses ShortBuffer) after)
+      pair_refused e = of_table table t {P = λ rs. PairShown rs i j before (overlap_refuses ShortBuffer) after} (record {
         answered = rw (shown_fits, e) refl;
         shows = shown_handed;
       })
@@ -97,12 +97,12 @@ module _ {rs : List Rule} {e l i j : ℕ} (f : FirstAfter rs e l i j) where
   unfolding fits handed
   pair_reports {before} {after} {a} s = elim (dec_le (length (shown_bytes rs i j)) (length before)) [
     | yes p ↦
-        let said : a ≡ Overlap i j (length (shown_bytes rs i j)) = s.answered ∙ rw (le-leb (length (shown_bytes rs i j)) (length before) p) refl in
+        let said : a ≡ overlaps i j (length (shown_bytes rs i j)) = s.answered ∙ rw (le-leb (length (shown_bytes rs i j)) (length before) p) refl in
         let held : after ≡ shown_bytes rs i j ++ drop (length (shown_bytes rs i j)) before = s.shows ∙ rw (le-leb (length (shown_bytes rs i j)) (length before) p) refl in
         subst (λ (x : OverlapAnswer). Reports rs e l before x after) (sym said) (f, refl, p, held)
     | no n ↦
         let short = lt_of_not-le n in
-        let said : a ≡ Refused ShortBuffer = s.answered ∙ rw (lt-leb (length (shown_bytes rs i j)) (length before) short) refl in
+        let said : a ≡ overlap_refuses ShortBuffer = s.answered ∙ rw (lt-leb (length (shown_bytes rs i j)) (length before) short) refl in
         let held : after ≡ before = s.shows ∙ rw (lt-leb (length (shown_bytes rs i j)) (length before) short) refl in
         subst (λ (x : OverlapAnswer). Reports rs e l before x after) (sym said) (refl, record { earlier = i; later = j; first = f; short = short }, held)
   ]
@@ -112,38 +112,38 @@ module _ {rs : List Rule} {e l i j : ℕ} (f : FirstAfter rs e l i j) where
       subst (λ (n : ℕ). PairShown rs i n before a after) same.1 (subst (λ (m : ℕ). PairShown rs m j' before a after) same.0 s)
 
   pub reports_pair : (a : OverlapAnswer) {before after : List ℕ} → Reports rs e l before a after → PairShown rs i j before a after
-  reports_pair (Overlap i' j' n) h = moved (one_first h.0 f) (pair_fits h.1 h.2 h.3)
-  reports_pair NoFurther h = absurd (h.0 i j f.pair f.after)
-  reports_pair (Refused error) {before} {after} h =
-      subst (λ (x : TypeNameError). PairShown rs i j before (Refused x) after) (sym h.0) (moved (one_first h.1.first f) (pair_short h.1.short h.2))
+  reports_pair (Ok (Some o)) h = moved (one_first h.0 f) (pair_fits h.1 h.2 h.3)
+  reports_pair (Ok None) h = absurd (h.0 i j f.pair f.after)
+  reports_pair (Err error) {before} {after} h =
+      subst (λ (x : TypeNameError). PairShown rs i j before (overlap_refuses x) after) (sym h.0) (moved (one_first h.1.first f) (pair_short h.1.short h.2))
 
 module _ (rs : List Rule) (e l : ℕ) where
-  reports_none : NoneAfter rs e l → (a : OverlapAnswer) {before after : List ℕ} → Reports rs e l before a after → (a ≡ NoFurther) × (after ≡ before)
-  reports_none none (Overlap i j n) h = absurd (none i j h.0.pair h.0.after)
-  reports_none none NoFurther h = (refl, h.1)
-  reports_none none (Refused error) h = absurd (none _ _ h.1.first.pair h.1.first.after)
+  reports_none : NoneAfter rs e l → (a : OverlapAnswer) {before after : List ℕ} → Reports rs e l before a after → (a ≡ no_further) × (after ≡ before)
+  reports_none none (Ok (Some o)) h = absurd (none o.earlier o.later h.0.pair h.0.after)
+  reports_none none (Ok None) h = (refl, h.1)
+  reports_none none (Err error) h = absurd (none _ _ h.1.first.pair h.1.first.after)
 
   one_report : (a a' : OverlapAnswer) (before : List ℕ) {after after' : List ℕ} → Reports rs e l before a after → Reports rs e l before a' after'
       → (a ≡ a') × (after ≡ after')
-  one_report (Overlap i j n) a' before h h' = one_shown (reports_pair h.0 (Overlap i j n) h) (reports_pair h.0 a' h')
-  one_report NoFurther a' before h h' = let u = reports_none h.0 a' h' in (sym u.0, h.1 ∙ sym u.1)
-  one_report (Refused error) a' before h h' = one_shown (reports_pair h.1.first (Refused error) h) (reports_pair h.1.first a' h')
+  one_report (Ok (Some o)) a' before h h' = one_shown (reports_pair h.0 (overlaps o.earlier o.later o.bytes) h) (reports_pair h.0 a' h')
+  one_report (Ok None) a' before h h' = let u = reports_none h.0 a' h' in (sym u.0, h.1 ∙ sym u.1)
+  one_report (Err error) a' before h h' = one_shown (reports_pair h.1.first (overlap_refuses error) h) (reports_pair h.1.first a' h')
 
 -- ---- what the code found
 
-pub malformed_told : {rules : List ℕ} {e l : ℕ} {before : List ℕ} → table_of rules ≡ no_table → OverlapTold rules e l before (Refused InvalidRuleTable) before
+pub malformed_told : {rules : List ℕ} {e l : ℕ} {before : List ℕ} → table_of rules ≡ no_table → OverlapTold rules e l before (overlap_refuses InvalidRuleTable) before
 malformed_told {e = e} {l} {before} none =
-    record { says = subst (λ (x : TableFound). OverlapSays x e l before (Refused InvalidRuleTable) before) (sym none) (refl, refl) }
+    record { says = subst (λ (x : TableFound). OverlapSays x e l before (overlap_refuses InvalidRuleTable) before) (sym none) (refl, refl) }
 
 told_of : {rules : List ℕ} {rs : List Rule} {e l : ℕ} {before after : List ℕ} {a : OverlapAnswer} → table_of rules ≡ a_table rs → Reports rs e l before a after
     → OverlapTold rules e l before a after
 told_of {e = e} {l} {before} {after} {a} is h = record { says = subst (λ (x : TableFound). OverlapSays x e l before a after) (sym is) h }
 
-module _ {rules : List ℕ} {count : ℕ} {starts : List ℕ} (t : RulesRead rules count starts) (e l : ℕ) (found : PairFound) (o : OfTable rules (λ rs. PairTold rs e l found)) where
-  pub none_further : {before : List ℕ} → found ≡ PairFound.Nothing → OverlapTold rules e l before NoFurther before
+module _ {rules : List ℕ} {count : ℕ} {starts : List ℕ} (t : RulesRead rules count starts) (e l : ℕ) (found : Option PairPlaces) (o : OfTable rules (λ rs. PairTold rs e l found)) where
+  pub none_further : {before : List ℕ} → found ≡ None → OverlapTold rules e l before no_further before
   none_further q = told_of t.is (subst (PairTold t.rules e l) q (o.says t.rules t.is), refl)
 
-  module _ {i j : ℕ} (q : found ≡ PairFound.Pair i j) where
+  module _ {i j : ℕ} (q : found ≡ pair i j) where
     first_pair : FirstAfter t.rules e l i j
     first_pair = subst (PairTold t.rules e l) q (o.says t.rules t.is)
 
@@ -165,23 +165,23 @@ one_answer {rules} {e} {l} {before} {after} {after'} {a} {a'} h h' = by (table_o
     by (a_table rs) u v = one_report rs e l a a' before u v
 
 -- No refusal touches the buffer, and nor does the answer that there is no further pair.
-pub refused_untouched : {rules : List ℕ} {e l : ℕ} {before after : List ℕ} {error : TypeNameError} → OverlapTold rules e l before (Refused error) after → after ≡ before
+pub refused_untouched : {rules : List ℕ} {e l : ℕ} {before after : List ℕ} {error : TypeNameError} → OverlapTold rules e l before (overlap_refuses error) after → after ≡ before
 refused_untouched {rules} {e} {l} {before} {after} {error} h = by (table_of rules) h.says
   where
-    by : (x : TableFound) → OverlapSays x e l before (Refused error) after → after ≡ before
+    by : (x : TableFound) → OverlapSays x e l before (overlap_refuses error) after → after ≡ before
     by no_table u = u.1
     by (a_table rs) u = u.2
 
-pub no_further_untouched : {rules : List ℕ} {e l : ℕ} {before after : List ℕ} → OverlapTold rules e l before NoFurther after → after ≡ before
+pub no_further_untouched : {rules : List ℕ} {e l : ℕ} {before after : List ℕ} → OverlapTold rules e l before no_further after → after ≡ before
 no_further_untouched {rules} {e} {l} {before} {after} h = by (table_of rules) h.says
   where
-    by : (x : TableFound) → OverlapSays x e l before NoFurther after → after ≡ before
+    by : (x : TableFound) → OverlapSays x e l before no_further after → after ≡ before
     by no_table u = u.1
     by (a_table rs) u = u.1
 
 -- A table that is not of the form is refused,
 pub not_of_the_form : {rules : List ℕ} {e l : ℕ} {before after : List ℕ} {a : OverlapAnswer} → table_of rules ≡ no_table → OverlapTold rules e l before a after
-    → a ≡ Refused InvalidRuleTable
+    → a ≡ overlap_refuses InvalidRuleTable
 not_of_the_form {e = e} {l} {before} {after} {a} none h = (subst (λ (x : TableFound). OverlapSays x e l before a after) none h.says).0
 
 module _ (rules : List ℕ) {rs : List Rule} (is : table_of rules ≡ a_table rs) where
@@ -189,16 +189,16 @@ module _ (rules : List ℕ) {rs : List Rule} (is : table_of rules ≡ a_table rs
     pub reports : {a : OverlapAnswer} → OverlapTold rules e l before a after → Reports rs e l before a after
     reports {a} h = subst (λ (x : TableFound). OverlapSays x e l before a after) is h.says
 
-    pub only_short : {error : TypeNameError} → OverlapTold rules e l before (Refused error) after → (error ≡ ShortBuffer) × TooShort rs e l before
+    pub only_short : {error : TypeNameError} → OverlapTold rules e l before (overlap_refuses error) after → (error ≡ ShortBuffer) × TooShort rs e l before
     only_short h = let u = reports h in (u.0, u.1)
 
-    pub first_reported : {i j bytes : ℕ} → OverlapTold rules e l before (Overlap i j bytes) after → FirstAfter rs e l i j
+    pub first_reported : {i j bytes : ℕ} → OverlapTold rules e l before (overlaps i j bytes) after → FirstAfter rs e l i j
     first_reported h = (reports h).0
 
-    pub none_left : OverlapTold rules e l before NoFurther after → NoneAfter rs e l
+    pub none_left : OverlapTold rules e l before no_further after → NoneAfter rs e l
     none_left h = (reports h).0
 
-    pub shown_in_front : {i j bytes : ℕ} → OverlapTold rules e l before (Overlap i j bytes) after → (take bytes after ≡ shown_bytes rs i j) × (drop bytes after ≡ drop bytes before)
+    pub shown_in_front : {i j bytes : ℕ} → OverlapTold rules e l before (overlaps i j bytes) after → (take bytes after ≡ shown_bytes rs i j) × (drop bytes after ≡ drop bytes before)
     shown_in_front {i} {j} {bytes} h =
         let u = reports h in
         (ap (take bytes) u.3 ∙ take_at (shown_bytes rs i j) (drop bytes before) bytes (sym u.1), ap (drop bytes) u.3 ∙ drop_at (shown_bytes rs i j) (drop bytes before) bytes (sym u.1))
@@ -212,9 +212,9 @@ module _ (rules : List ℕ) {rs : List Rule} (is : table_of rules ≡ a_table rs
   enough {e} {l} {before} {after} {a} p h = by a (reports h)
     where
       by : (x : OverlapAnswer) → Reports rs e l before x after → NextPair rs e l x
-      by (Overlap i j bytes) u = u.0
-      by NoFurther u = u.0
-      by (Refused error) u = absurd (omega (arith, p, u.1.short, shown_few u.1.first.pair))
+      by (Ok (Some o)) u = u.0
+      by (Ok None) u = u.0
+      by (Err error) u = absurd (omega (arith, p, u.1.short, shown_few u.1.first.pair))
 
   -- ---- the sequence that is shown
 

@@ -1,5 +1,7 @@
 -- The promises of a match follow from the answer and the buffer being the definition's. Assumes nothing.
-use Rattle.std.specs.Prelude.{ℕ, ◌-◌, ◌≤◌, ◌<◌, ◌↔◌, ◌⊎◌, length, replicate}
+use Rattle.rule_answers.specs.MatchAnswer.{matches_with, match_refuses, MatchAnswer}
+use Rattle.rows.specs.Answer.{accepted_with, refused_with, Answer}
+use Rattle.std.specs.Prelude.{ℕ, ◌-◌, ◌≤◌, ◌<◌, ◌↔◌, ◌⊎◌, length, replicate, Err, Ok}
 use Rattle.std.proofs.Math.Path.{◌≡◌, refl, sym, ap, subst}
 use Rattle.std.proofs.Common.{◌∙◌, inl, inr, arith}
 use mathlib.Core.List.{List}
@@ -10,7 +12,6 @@ use Rattle.rows.specs.Refusals.{refusal_of}
 use Rattle.rows.specs.Laws.Numbered.{Between}
 use Rattle.rows.specs.declared.answer.TypeNameError.{TypeNameError}
 use Rattle.rows.specs.declared.answer.TypeNameError.TheVariants.{InvalidRuleTable, NoRuleMatches}
-use Rattle.rows.specs.declared.answer.Answer.{Answer}
 use Rattle.reader.specs.Nodes.{Nodes, count}
 use Rattle.type_name.specs.FileRow.{HeadRow, Outcome, untouched, passes, on_pass, file_row}
 use Rattle.type_name.specs.Answers.{RowAnswer, accepted, refused, row_answer, outcome, answer_in, answer, filled, buffer_in, final_buffer}
@@ -25,36 +26,35 @@ use Rattle.rules.specs.Laws.Winners.{winner_matches, none_matching}
 use Rattle.rule_answers.specs.MatchAnswers.{RuleAnswer, by_winner, with_winner, by_table, match_outcome, match_in, match_answer, tree_left, match_buffer_in, match_buffer}
 use Rattle.rule_answers.specs.MatchAnswers
 use Rattle.rule_answers.specs.MatchPromises.{MatchesAt, AcceptedTree, Won, MatchPromised}
-use Rattle.rule_answers.specs.declared.matching.MatchAnswer.{MatchAnswer}
 
 -- ---- the parts of answers
 
 abbrev matched_nodes : MatchAnswer → ℕ
-matched_nodes (MatchAnswer.Matched nodes steps place) = nodes
-matched_nodes (MatchAnswer.Refused e steps) = 0
+matched_nodes (Ok m) = m.nodes
+matched_nodes (Err r) = 0
 
 abbrev matched_steps : MatchAnswer → ℕ
-matched_steps (MatchAnswer.Matched nodes steps place) = steps
-matched_steps (MatchAnswer.Refused e steps) = steps
+matched_steps (Ok m) = m.steps
+matched_steps (Err r) = r.steps
 
 abbrev matched_place : MatchAnswer → ℕ
-matched_place (MatchAnswer.Matched nodes steps place) = place
-matched_place (MatchAnswer.Refused e steps) = 0
+matched_place (Ok m) = m.place
+matched_place (Err r) = 0
 
 -- The refusal's number, 0 if a rule wins.
 abbrev match_number : MatchAnswer → ℕ
-match_number (MatchAnswer.Matched nodes steps place) = 0
-match_number (MatchAnswer.Refused e steps) = (refusal_of e).number
+match_number (Ok m) = 0
+match_number (Err r) = (refusal_of r.error).number
 
 -- 1 if the answer is refused.
 abbrev not_matched : MatchAnswer → ℕ
-not_matched (MatchAnswer.Matched nodes steps place) = 0
-not_matched (MatchAnswer.Refused e steps) = 1
+not_matched (Ok m) = 0
+not_matched (Err r) = 1
 
 -- A refused answer as that of a match.
 abbrev refused_as : Answer → MatchAnswer
-refused_as (Answer.Accepted nodes steps) = MatchAnswer.Matched nodes steps 0
-refused_as (Answer.Refused e steps) = MatchAnswer.Refused e steps
+refused_as (Ok a) = matches_with a.nodes a.steps 0
+refused_as (Err r) = match_refuses r.error r.steps
 
 -- The row's answer, if the row was read.
 abbrev pub passed_in : Outcome RowAnswer → RowAnswer → RowAnswer
@@ -95,7 +95,7 @@ module _ (before : List ℕ) where
   above : {after : List ℕ} (e : TypeNameError) → last_untouched < (refusal_of e).number → after ≡ replicate (length before) 0 → RefusedBuffer before after e
   above e p q = record { kept = λ l. absurd (omega (arith, p, l)); zeroed = λ _. q }
 
-  same_refusal : {a : MatchAnswer} {after : List ℕ} {e e' : TypeNameError} {m m' : ℕ} → a ≡ MatchAnswer.Refused e m → a ≡ MatchAnswer.Refused e' m' → RefusedBuffer before after e
+  same_refusal : {a : MatchAnswer} {after : List ℕ} {e e' : TypeNameError} {m m' : ℕ} → a ≡ match_refuses e m → a ≡ match_refuses e' m' → RefusedBuffer before after e
       → RefusedBuffer before after e'
   same_refusal {after = after} {e = e} {e' = e'} p q b =
       let same : (refusal_of e).number ≡ (refusal_of e').number = ap match_number (sym p ∙ q) in
@@ -104,11 +104,11 @@ module _ (before : List ℕ) where
 -- ---- a file that is refused before its row is read
 
 module _ (file rules before : List ℕ) {e : TypeNameError} (low : Between 1 6 e) (q : file_row format file (length before) ≡ untouched e) where
-  early_read : answer file (length before) ≡ Answer.Refused e 0
+  early_read : answer file (length before) ≡ refused_with e 0
   unfolding answer answer_in outcome on_pass
   early_read = rw q refl
 
-  early_match : match_answer file rules (length before) ≡ MatchAnswer.Refused e 0
+  early_match : match_answer file rules (length before) ≡ match_refuses e 0
   unfolding match_answer match_in match_outcome on_pass
   early_match = rw q refl
 
@@ -129,7 +129,7 @@ module _ (file rules before : List ℕ) {e : TypeNameError} (low : Between 1 6 e
       let clash : ◌≡◌ {A = ℕ} 0 1 = ap is_passed (sym early_outcome ∙ p) in
       absurd (omega (arith, clash))
 
-  early : MatchPromised file rules before (MatchAnswer.Refused e 0) before
+  early : MatchPromised file rules before (match_refuses e 0) before
   early = record {
     answered = sym early_match;
     buffered = sym early_buffer;
@@ -154,7 +154,7 @@ module _ (file rules before : List ℕ) (r : HeadRow) (has : Has file (length be
   row_placed = subst Placed read_is (outcome_placed file (length before))
 
   -- "checked after 6": the refusals of a row have numbers above it.
-  after_6 : (o : RowAnswer) → RowPlaced o → (e : TypeNameError) (m : ℕ) → answer_in (passes o) ≡ Answer.Refused e m → last_untouched < (refusal_of e).number
+  after_6 : (o : RowAnswer) → RowPlaced o → (e : TypeNameError) (m : ℕ) → answer_in (passes o) ≡ refused_with e m → last_untouched < (refusal_of e).number
   unfolding answer_in
   after_6 (accepted x n) p e m c = let clash : ◌≡◌ {A = ℕ} 0 1 = ap is_refused c in absurd (omega (arith, clash))
   after_6 (refused e' n) p e m c = omega (arith, ap number_in c, bounds 10 40 e' p)
@@ -167,11 +167,11 @@ module _ (file rules before : List ℕ) (r : HeadRow) (has : Has file (length be
   unfolding final_buffer
   left_is = ap (buffer_in before) read_is
 
-  high : (e : TypeNameError) (m : ℕ) → answer file (length before) ≡ Answer.Refused e m → last_untouched < (refusal_of e).number
+  high : (e : TypeNameError) (m : ℕ) → answer file (length before) ≡ refused_with e m → last_untouched < (refusal_of e).number
   high e m p = after_6 (row_answer r) row_placed e m (sym answer_is ∙ p)
 
-  abbrev no_early : {a : MatchAnswer} {after : List ℕ} (e : TypeNameError) (m : ℕ) → answer file (length before) ≡ Answer.Refused e m → (refusal_of e).number ≤ last_untouched
-      → (a ≡ MatchAnswer.Refused e m) × (after ≡ before)
+  abbrev no_early : {a : MatchAnswer} {after : List ℕ} (e : TypeNameError) (m : ℕ) → answer file (length before) ≡ refused_with e m → (refusal_of e).number ≤ last_untouched
+      → (a ≡ match_refuses e m) × (after ≡ before)
   no_early e m p l = absurd (omega (arith, high e m p, l))
 
   match_is : match_outcome file rules (length before) ≡ passes (by_table (table_of rules) r.tokens (row_answer r))
@@ -190,7 +190,7 @@ module _ (file rules before : List ℕ) (r : HeadRow) (has : Has file (length be
         let clash : ◌≡◌ {A = ℕ} 0 1 = ap is_formed (sym t ∙ f) in
         absurd (omega (arith, clash))
 
-    bad_table : MatchPromised file rules before (MatchAnswer.Refused InvalidRuleTable 0) (replicate (length before) 0)
+    bad_table : MatchPromised file rules before (match_refuses InvalidRuleTable 0) (replicate (length before) 0)
     unfolding match_answer match_in match_buffer match_buffer_in buffer_in on_pass tree_left filled
     bad_table = record {
       answered = sym (ap match_in bad_outcome);
@@ -210,10 +210,10 @@ module _ (file rules before : List ℕ) (r : HeadRow) (has : Has file (length be
     unfolding by_table
     formed_outcome = match_is ∙ rw t refl
 
-    not_50 : {a : MatchAnswer} → match_number a < 50 ⊎ (50 < match_number a) → (table_of rules ≡ no_table) ↔ (a ≡ MatchAnswer.Refused InvalidRuleTable 0)
+    not_50 : {a : MatchAnswer} → match_number a < 50 ⊎ (50 < match_number a) → (table_of rules ≡ no_table) ↔ (a ≡ match_refuses InvalidRuleTable 0)
     not_50 {a} p = (λ n. let clash : ◌≡◌ {A = ℕ} 0 1 = ap is_formed (sym n ∙ t) in absurd (omega (arith, clash)), λ c. absurd (clash_50 c p))
       where
-        clash_50 : a ≡ MatchAnswer.Refused InvalidRuleTable 0 → match_number a < 50 ⊎ (50 < match_number a) → ⊥
+        clash_50 : a ≡ match_refuses InvalidRuleTable 0 → match_number a < 50 ⊎ (50 < match_number a) → ⊥
         clash_50 c (inl l) = omega (arith, ap match_number c, l)
         clash_50 c (inr l) = omega (arith, ap match_number c, l)
 
@@ -230,7 +230,7 @@ module _ (file rules before : List ℕ) (r : HeadRow) (has : Has file (length be
       is_placed : Between 10 40 e
       is_placed = subst RowPlaced o row_placed
 
-      read_refuses : answer file (length before) ≡ Answer.Refused e m
+      read_refuses : answer file (length before) ≡ refused_with e m
       unfolding answer_in
       read_refuses = answer_is ∙ rw o refl
 
@@ -243,7 +243,7 @@ module _ (file rules before : List ℕ) (r : HeadRow) (has : Has file (length be
           let clash : ◌≡◌ {A = ℕ} 1 0 = ap is_row_refused (sym o ∙ ap (λ (c : Outcome RowAnswer). passed_in c (row_answer r)) (sym read_is ∙ p)) in
           absurd (omega (arith, clash))
 
-      row_refused : MatchPromised file rules before (MatchAnswer.Refused e m) (replicate (length before) 0)
+      row_refused : MatchPromised file rules before (match_refuses e m) (replicate (length before) 0)
       unfolding match_answer match_in match_buffer match_buffer_in buffer_in on_pass tree_left filled
       row_refused = record {
         answered = sym (ap match_in refused_outcome);
@@ -262,14 +262,14 @@ module _ (file rules before : List ℕ) (r : HeadRow) (has : Has file (length be
       unfolding with_winner
       won_outcome = formed_outcome ∙ rw o refl
 
-      read_accepts : answer file (length before) ≡ Answer.Accepted (count x) m
+      read_accepts : answer file (length before) ≡ accepted_with (count x) m
       unfolding answer_in
       read_accepts = answer_is ∙ rw o refl
 
       is_accepted : AcceptedTree file (length before) r.tokens x m
       is_accepted = record { row_read = has.row_is; defined = read_is ∙ ap (λ (c : RowAnswer). passes c) o }
 
-      no_refusal : {e : TypeNameError} {n : ℕ} → answer file (length before) ≡ Answer.Refused e n → ⊥
+      no_refusal : {e : TypeNameError} {n : ℕ} → answer file (length before) ≡ refused_with e n → ⊥
       no_refusal p = let clash : ◌≡◌ {A = ℕ} 0 1 = ap is_refused (sym read_accepts ∙ p) in absurd (omega (arith, clash))
 
       -- It has one row and one tree.
@@ -298,7 +298,7 @@ module _ (file rules before : List ℕ) (r : HeadRow) (has : Has file (length be
         unfolding by_winner
         none_outcome = won_outcome ∙ rw w refl
 
-        none_wins : MatchPromised file rules before (MatchAnswer.Refused NoRuleMatches m) (replicate (length before) 0)
+        none_wins : MatchPromised file rules before (match_refuses NoRuleMatches m) (replicate (length before) 0)
         unfolding match_answer match_in match_buffer match_buffer_in buffer_in on_pass tree_left filled
         none_wins = record {
           answered = sym (ap match_in none_outcome);
@@ -306,7 +306,7 @@ module _ (file rules before : List ℕ) (r : HeadRow) (has : Has file (length be
           first_refusals = λ e n. no_early e n;
           refused_table = λ _. not_50 (inr (omega arith));
           refused_row = λ rs' f e n p. absurd (no_refusal p);
-          none_matches = λ rs' f ts y n a. (λ _. ap (λ (k : ℕ). MatchAnswer.Refused NoRuleMatches k) (same_steps a), λ _. none_left a f w);
+          none_matches = λ rs' f ts y n a. (λ _. ap (λ (k : ℕ). match_refuses NoRuleMatches k) (same_steps a), λ _. none_left a f w);
           won = λ nodes steps place p. let clash : ◌≡◌ {A = ℕ} 1 0 = ap not_matched p in absurd (omega (arith, clash));
           refused_buffer = λ e n p. same_refusal before refl p (above before NoRuleMatches (omega arith) refl);
         }
@@ -336,7 +336,7 @@ module _ (file rules before : List ℕ) (r : HeadRow) (has : Has file (length be
               first = v.2;
             }
 
-        one_wins : MatchPromised file rules before (MatchAnswer.Matched (count x) m place) (match_buffer file rules before)
+        one_wins : MatchPromised file rules before (matches_with (count x) m place) (match_buffer file rules before)
         unfolding match_answer match_in
         one_wins = record {
           answered = sym (ap match_in one_outcome);
@@ -404,8 +404,8 @@ module _ (file rules before : List ℕ) where
     unfolding match_answer
     accepted_match = ap match_in (accepted_outcome (file_row format file (length before)) (file_comes file (length before)) refl)
 
-  module _ (late : (e : TypeNameError) (m : ℕ) → answer file (length before) ≡ Answer.Refused e m → last_untouched < (refusal_of e).number) where
-    refused_zeros : (a : RuleAnswer) {e : TypeNameError} {m : ℕ} → match_in (passes a) ≡ MatchAnswer.Refused e m → match_buffer_in before (passes a) ≡ replicate (length before) 0
+  module _ (late : (e : TypeNameError) (m : ℕ) → answer file (length before) ≡ refused_with e m → last_untouched < (refusal_of e).number) where
+    refused_zeros : (a : RuleAnswer) {e : TypeNameError} {m : ℕ} → match_in (passes a) ≡ match_refuses e m → match_buffer_in before (passes a) ≡ replicate (length before) 0
     unfolding match_in match_buffer_in buffer_in on_pass tree_left filled
     refused_zeros (MatchAnswers.matched x n place) q = let clash : ◌≡◌ {A = ℕ} 0 1 = ap not_matched q in absurd (omega (arith, clash))
     refused_zeros (MatchAnswers.refused e n) q = zeroed before
@@ -415,7 +415,7 @@ module _ (file rules before : List ℕ) where
     late_outcome (passes r) c q = (_, match_is file rules before r c q)
 
     -- After a refusal the buffer holds zeros.
-    pub late_zeros : {e : TypeNameError} {m : ℕ} → match_answer file rules (length before) ≡ MatchAnswer.Refused e m → match_buffer file rules before ≡ replicate (length before) 0
+    pub late_zeros : {e : TypeNameError} {m : ℕ} → match_answer file rules (length before) ≡ match_refuses e m → match_buffer file rules before ≡ replicate (length before) 0
     unfolding match_answer match_buffer
     late_zeros p =
         let (a, is) = late_outcome (file_row format file (length before)) (file_comes file (length before)) refl in

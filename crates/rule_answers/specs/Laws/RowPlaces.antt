@@ -1,16 +1,15 @@
 -- A row's tokens found again, record by record: the loop is that of the row reader, without its words. Assumes nothing.
-use Rattle.std.specs.Prelude.{ℕ, ◌+◌, ◌≤◌, ◌<◌, ◌≡◌, refl, List, length, take, set, replicate}
+use Rattle.std.specs.Prelude.{ℕ, ◌+◌, ◌≤◌, ◌<◌, ◌≡◌, refl, List, length, take, set, replicate, None, Option, Some}
 use Rattle.std.proofs.Math.Path.{sym, subst}
 use Rattle.std.proofs.Common.{ap, ◌∙◌, arith}
 use Rattle.std.proofs.lemmas.List.{length-replicate}
 use Rattle.rows.specs.Format.{format, head_length, short_bytes, at_kind, most_tokens}
-use Rattle.rows.specs.Records.{Row, row, refused, found, kind_at, length_at, little_endian, records_from}
+use Rattle.rows.specs.Records.{Row, row, refused, found, kind_at, length_at, little_endian, records_from, formed}
 use Rattle.rows.specs.RowRead.{Room}
 use Rattle.rows.specs.Laws.Tokens.{Fits, formed_fits}
 use Rattle.rows.specs.Laws.RowLoop.{RowLoop, loop_begins, loop_full, loop_malformed, loop_token, loop_ends}
 use Rattle.rows.specs.Laws.RowEnd.{row_malformed, row_too_long, row_ends}
 use Rattle.rows.specs.declared.token.TokenRecord.{TokenRecord}
-use Rattle.rows.specs.declared.token.TokenRecord.TheVariants.{Formed, Malformed}
 use Rattle.type_name.specs.Laws.Fields.{one_row}
 use Rattle.rules.specs.RowSeen.{RowSeen}
 use Rattle.rules.specs.Laws.RowsRead.{row_seen}
@@ -64,11 +63,11 @@ module _ {file kinds₀ places₀ kinds places : List ℕ} {at count : ℕ} (l :
     pub record RecordThere : Type 0 where
       pub kind : ℕ
       pub size : ℕ
-      pub is : found format file at ≡ Formed kind size
+      pub is : found format file at ≡ formed kind size
 
-    by_record : (r : TokenRecord) → found format file at ≡ r → RecordThere
-    by_record Malformed e = absurd (no_refusal (row_malformed format file head_length most_tokens (loop_malformed l.loop p not_full e)))
-    by_record (Formed k n) e = record { kind = k; size = n; is = e }
+    by_record : (r : Option TokenRecord) → found format file at ≡ r → RecordThere
+    by_record None e = absurd (no_refusal (row_malformed format file head_length most_tokens (loop_malformed l.loop p not_full e)))
+    by_record (Some r) e = record { kind = r.kind; size = r.length; is = e }
 
     there : RecordThere
     there = by_record (found format file at) refl

@@ -1,6 +1,6 @@
 -- The rules of a table: how many there are, that each stands in it, and what `read_table` says of them. Assumes nothing.
 use Prim.Native.Nat.{ℕ, zero, suc, ◌+◌, ◌≤◌, ◌<◌}
-use Rattle.std.specs.Prelude.{◌≡◌, Bool, true, false, List, [], ◌∷◌, leb}
+use Rattle.std.specs.Prelude.{◌≡◌, Bool, true, false, List, [], ◌∷◌, leb, None, Option, Some}
 use Rattle.std.proofs.Math.Path.{refl, subst}
 use Rattle.std.proofs.Common.{arith}
 use Rattle.std.proofs.Math.ListN.{length}
@@ -10,7 +10,6 @@ use Rattle.rules.specs.RuleTable.{RuleFound, no_rule, a_rule, TableFound, no_tab
 use Rattle.rules.specs.Overlaps.{rule}
 use Rattle.rules.specs.ItemsStand.{RuleStands}
 use Rattle.rules.specs.TableStands.{RulesRead, TableTold, ReadsTable}
-use Rattle.rules.specs.declared.table.TableRead.{TableRead}
 use Rattle.rules.specs.Laws.Tables.{rule_within}
 
 by_case : (P : TableFound → Type 0) (b : Bool) {x y : TableFound} → P x → P y → P (elim b as (λ _. TableFound) [ true ↦ x | false ↦ y ])
@@ -61,9 +60,9 @@ module _ (table : List ℕ) where
 
 -- ---- what `read_table` says, by its cases
 
-module _ {rules starts : List ℕ} {r : TableRead} (h : ReadsTable rules r starts) where
-  pub table_malformed : r ≡ TableRead.Malformed → table_of rules ≡ no_table
-  table_malformed q = subst (λ (x : TableRead). TableTold rules x starts) q h.told
+module _ {rules starts : List ℕ} {r : Option ℕ} (h : ReadsTable rules r starts) where
+  pub table_malformed : r ≡ None → table_of rules ≡ no_table
+  table_malformed q = subst (λ (x : Option ℕ). TableTold rules x starts) q h.told
 
-  pub table_there : {count : ℕ} → r ≡ TableRead.Rules count → RulesRead rules count starts
-  table_there q = subst (λ (x : TableRead). TableTold rules x starts) q h.told
+  pub table_there : {count : ℕ} → r ≡ Some count → RulesRead rules count starts
+  table_there q = subst (λ (x : Option ℕ). TableTold rules x starts) q h.told

@@ -1,5 +1,6 @@
 -- The calls one after the other report exactly the pairs of rules that overlap, in order, each once, and they end. Assumes nothing.
-use Rattle.std.specs.Prelude.{ℕ, zero, suc, ◌+◌, ◌≤◌, ◌<◌, ◌^◌, ◌≡◌, ◌↔◌, List, [], ◌∷◌, length}
+use Rattle.rule_answers.specs.OverlapAnswer.{OverlapAnswer}
+use Rattle.std.specs.Prelude.{ℕ, zero, suc, ◌+◌, ◌≤◌, ◌<◌, ◌^◌, ◌≡◌, ◌↔◌, List, [], ◌∷◌, length, Err, None, Ok, Some}
 use Rattle.std.proofs.Common.{⊎_elim, arith}
 use Rattle.rules.specs.Rules.{Rule}
 use Rattle.rules.specs.RuleTable.{a_table, table_of}
@@ -10,8 +11,6 @@ use Rattle.rule_answers.specs.OverlapAnswers.{OverlapTold}
 use Rattle.rule_answers.specs.OverlapWalks.{Calls, ends, goes, CallsAnswered}
 use Rattle.rule_answers.specs.Laws.Tables.{rules_there}
 use Rattle.rule_answers.specs.Laws.Overlaps.{first_reported, none_left, enough}
-use Rattle.rule_answers.specs.declared.overlap.OverlapAnswer.{OverlapAnswer}
-use Rattle.rule_answers.specs.declared.overlap.OverlapAnswer.TheVariants.{Overlap, NoFurther, Refused}
 
 module _ (rules : List ℕ) {rs : List Rule} (is : table_of rules ≡ a_table rs) where
   pub calls_walk : {e l : ℕ} {ps : List Places} → Calls rules e l ps → Walk rs e l ps
@@ -37,13 +36,13 @@ module _ (rules : List ℕ) {rs : List Rule} (is : table_of rules ≡ a_table rs
     one_call e l p q later = by (w.answer e l) (w.told e l p q)
       where
         by : (a : OverlapAnswer) → OverlapTold rules e l (w.lent e l) a (w.final e l) → Ended e l
-        by (Overlap i j bytes) h =
+        by (Ok (Some o)) h =
             let f = first_reported rules is h in
             let few = (rules_there rules is).few in
-            let c = later i j (omega (arith, f.pair.in_order, f.pair.in_table, few)) (omega (arith, f.pair.in_table, few)) f in
-            (record { earlier = i; later = j } ∷ c.0, goes h c.1)
-        by NoFurther h = ([], ends h)
-        by (Refused error) h = absurd (enough rules is (w.room e l) h)
+            let c = later o.earlier o.later (omega (arith, f.pair.in_order, f.pair.in_table, few)) (omega (arith, f.pair.in_table, few)) f in
+            (record { earlier = o.earlier; later = o.later } ∷ c.0, goes h c.1)
+        by (Ok None) h = ([], ends h)
+        by (Err error) h = absurd (enough rules is (w.room e l) h)
 
     -- By the places behind the later one, where all pairs of a later earlier place are known to end;
     by_later : (a : ℕ) → ((e l : ℕ) → e < 2 ^ 32 → l < 2 ^ 32 → length rs ≤ e + a → Ended e l)

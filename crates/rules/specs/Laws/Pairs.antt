@@ -1,5 +1,5 @@
 -- The search for the next pair of rules that overlap. Assumes nothing.
-use Rattle.std.specs.Prelude.{ℕ, ◌+◌, ◌≤◌, ◌<◌, max, ◌≡◌, refl, ◌⊎◌, Bool, true, false, List, get_or, T}
+use Rattle.std.specs.Prelude.{ℕ, ◌+◌, ◌≤◌, ◌<◌, max, ◌≡◌, refl, ◌⊎◌, Bool, true, false, List, get_or, T, Option, Some, None}
 use Rattle.std.proofs.Common.{sym, ap, ◌∙◌, subst, inl, inr, ⊎_elim, arith, lt_of_not-le}
 use Rattle.std.proofs.Math.Decide.{dec_le}
 use Rattle.std.proofs.Math.Facts.{yes_and}
@@ -8,7 +8,7 @@ use Rattle.rules.specs.RuleTable.{TableFound, no_table, a_table, at_items}
 use Rattle.rules.specs.Overlaps.{rule, After, Pair, FirstAfter, NoneAfter}
 use Rattle.rules.specs.Meeting.{rules_meet}
 use Rattle.rules.specs.ItemsStand.{ItemsStand, no_more, the_rest, one_more, RuleStands, SomeRule, OfRules}
-use Rattle.rules.specs.TableStands.{RulesRead, OfTable, places_meet, FirstLater}
+use Rattle.rules.specs.TableStands.{RulesRead, OfTable, places_meet, FirstLater, LaterTold}
 use Rattle.rules.specs.Laws.Overlaps.{overlap_found, overlap_meets}
 use Rattle.rules.specs.Laws.Meeting.{items_there}
 
@@ -79,12 +79,15 @@ module _ (table : List ℕ) where
         meets_told : {r : Bool} → OfTable table (λ rs'. r ≡ places_meet rs' i j) → r ≡ places_meet rs i j
         meets_told o = o.says rs t.is
 
-        pub later_found : j < count → {r : Bool} → OfTable table (λ rs'. r ≡ places_meet rs' i j) → r ≡ true → OfTable table (λ rs'. FirstLater rs' i from count j)
-        later_found p o e = of_table {P = λ rs'. FirstLater rs' i from count j} (record {
-          bound = omega arith;
-          none_before = l.none;
-          found = λ _. (l.past, sym (meets_told o) ∙ e);
-        })
+        pub later_found : j < count → {r : Bool} → OfTable table (λ rs'. r ≡ places_meet rs' i j) → r ≡ true → OfTable table (λ rs'. LaterTold rs' i from count (Some j))
+        later_found p o e = of_table {P = λ rs'. LaterTold rs' i from count (Some j)} (
+          p,
+          record {
+            bound = omega arith;
+            none_before = l.none;
+            found = λ _. (l.past, sym (meets_told o) ∙ e);
+          },
+        )
 
         pub later_again : {r : Bool} → OfTable table (λ rs'. r ≡ places_meet rs' i j) → r ≡ false → LaterLoop (j + 1)
         later_again o e = record {
@@ -95,8 +98,8 @@ module _ (table : List ℕ) where
           ];
         }
 
-        pub later_ends : count ≤ j → OfTable table (λ rs'. FirstLater rs' i from count count)
-        later_ends p = of_table {P = λ rs'. FirstLater rs' i from count count} (record {
+        pub later_ends : count ≤ j → OfTable table (λ rs'. LaterTold rs' i from count None)
+        later_ends p = of_table {P = λ rs'. LaterTold rs' i from count None} (record {
           bound = omega arith;
           none_before = λ k q h. l.none k q (omega arith);
           found = λ h. absurd (omega arith);
@@ -127,33 +130,31 @@ module _ (table : List ℕ) where
           complete = λ i' j' pr a. ⊎_elim (λ h. inl h) (λ h. inr (h.0, omega (arith, h.0, h.1, pr.in_order))) (b.complete i' j' pr a);
         }
 
-        module _ (behind : i < from) {r : ℕ} (o : OfTable table (λ rs'. FirstLater rs' i from count r)) where
-          told : FirstLater rs i from count r
-          told = o.says rs t.is
+        none_there : {r : ℕ} → FirstLater rs i from count r → (j : ℕ) → from ≤ j → j < r → Pair rs i j → ⊥
+        none_there told j p q pr = pair_meets pr (told.none_before j p q)
 
-          none_there : (j : ℕ) → from ≤ j → j < r → Pair rs i j → ⊥
-          none_there j p q pr = pair_meets pr (told.none_before j p q)
-
-          pub pair_found : r < count → OfTable table (λ rs'. FirstAfter rs' e l i r)
-          pair_found p =
+        module _ (behind : i < from) {found : Option ℕ} (o : OfTable table (λ rs'. LaterTold rs' i from count found)) where
+          pub pair_found : {r : ℕ} → found ≡ Some r → OfTable table (λ rs'. FirstAfter rs' e l i r)
+          pair_found {r} s =
+              let (p, told) = subst (λ (x : Option ℕ). LaterTold rs i from count x) s (o.says rs t.is) in
               let f = told.found p in
               of_table {P = λ rs'. FirstAfter rs' e l i r} (record {
                 pair = pair_of i r (omega (arith, f.0)) p f.1;
                 after = b.sound r f.0;
-                first = λ i' j' pr a. ⊎_elim (λ h. inl h) (λ h. inr (h.0, not_before i' j' pr h.0 h.1)) (b.complete i' j' pr a);
+                first = λ i' j' pr a. ⊎_elim (λ h. inl h) (λ h. inr (h.0, not_before told i' j' pr h.0 h.1)) (b.complete i' j' pr a);
               })
             where
-              not_before : (i' j' : ℕ) → Pair rs i' j' → i ≡ i' → from ≤ j' → r ≤ j'
-              not_before i' j' pr q h = elim (dec_le r j') [
+              not_before : FirstLater rs i from count r → (i' j' : ℕ) → Pair rs i' j' → i ≡ i' → from ≤ j' → r ≤ j'
+              not_before told i' j' pr q h = elim (dec_le r j') [
                 | yes g ↦ g
-                | no g ↦ absurd (none_there j' h (lt_of_not-le g) (subst (λ (m : ℕ). Pair rs m j') (sym q) pr))
+                | no g ↦ absurd (none_there told j' h (lt_of_not-le g) (subst (λ (m : ℕ). Pair rs m j') (sym q) pr))
               ]
 
-          pub pairs_again : count ≤ r → PairLoop (i + 1) 0
-          pairs_again p = record {
+          pub pairs_again : found ≡ None → PairLoop (i + 1) 0
+          pairs_again s = record {
             past = omega (arith, b.past);
             sound = λ j q. inl (omega (arith, b.past));
-            complete = λ i' j' pr a. ⊎_elim (λ h. next i' j' h) (λ h. absurd (none_there j' h.1 (omega (arith, t.counted, pr.in_table)) (subst (λ (m : ℕ). Pair rs m j') (sym h.0) pr))) (b.complete i' j' pr a);
+            complete = λ i' j' pr a. ⊎_elim (λ h. next i' j' h) (λ h. absurd (none_there (subst (λ (x : Option ℕ). LaterTold rs i from count x) s (o.says rs t.is)) j' h.1 (omega (arith, t.counted, pr.in_table)) (subst (λ (m : ℕ). Pair rs m j') (sym h.0) pr))) (b.complete i' j' pr a);
           }
             where
               next : (i' j' : ℕ) → i < i' → (i + 1 < i') ⊎ ((i + 1 ≡ i') × (0 ≤ j'))
@@ -165,12 +166,3 @@ module _ (table : List ℕ) where
         pub pairs_end : count ≤ i → OfTable table (λ rs'. NoneAfter rs' e l)
         pairs_end p = of_table {P = λ rs'. NoneAfter rs' e l} (λ i' j' pr a.
             ⊎_elim (λ h. absurd (omega (arith, h, t.counted, pr.in_order, pr.in_table))) (λ h. absurd (omega (arith, h.0, t.counted, pr.in_order, pr.in_table))) (b.complete i' j' pr a))
-
--- The loops as they stand in the code, with the table that was read.
-pub record LaterSearch (table : List ℕ) (count : ℕ) (starts : List ℕ) (i from j : ℕ) : Type 0 where
-  pub read : RulesRead table count starts
-  pub search : LaterLoop table read i from j
-
-pub record PairSearch (table : List ℕ) (count : ℕ) (starts : List ℕ) (e l i from : ℕ) : Type 0 where
-  pub read : RulesRead table count starts
-  pub search : PairLoop table read e l i from

@@ -1,9 +1,11 @@
 -- The nodes of a row's tree as rules see them, found by their records. Assumes nothing.
-use Rattle.std.specs.Prelude.{ℕ, ◌≤◌, ◌<◌, ◌≡◌, Bool}
+use Rattle.std.specs.Prelude.{ℕ, ◌≤◌, ◌<◌, ◌≡◌, Bool, Option, Some, None}
 use Rattle.std.proofs.Math.Path.{refl, ap}
 use Rattle.std.proofs.Common.{sym, ◌∙◌, arith, le-leb}
 use Rattle.std.proofs.Math.Bool.{false, true≢false}
 use mathlib.Core.List.{List}
+use mathlib.Core.Logic.{∥∥₁_elim}
+use native.Mathlib.Bridge.{le_prop}
 use Rattle.std.proofs.Math.ListN.{length, get_or, length-map, get_or-map}
 use Rattle.rows.specs.Kinds.{End}
 use Rattle.rows.specs.Format.{format}
@@ -12,8 +14,7 @@ use Rattle.reader.specs.Nodes.{NodeKind, t_node, g_node, b_node, l_node, a_node,
 use Rattle.type_nodes.specs.Shapes.{NoNode, shape_of}
 use Rattle.type_nodes.specs.Nodes.{empty, shape}
 use Rattle.type_nodes.specs.Stands.{NodesStand, Of, Finds, token_of_first}
-use Rattle.type_nodes.specs.declared.nodes.Lookup.{Lookup}
-use Rattle.type_nodes.specs.declared.nodes.Lookup.TheVariants.{Node, Nothing}
+use Rattle.type_nodes.specs.declared.nodes.Node.{Node}
 use Rattle.type_nodes.specs.Laws.Siblings.{first, found_there, found_nothing}
 use Rattle.rules.specs.ItemsStand.{OfItem}
 use Rattle.rules.specs.Rules.{fits}
@@ -63,8 +64,8 @@ module _ {file kinds places : List ℕ} {row : List RowToken} (r : RowSeen file 
 
 -- ---- what a lookup finds
 
-module _ {file kinds places tree : List ℕ} {at to : ℕ} (before : at < to) {l : Lookup} (o : Of tree kinds at to (λ x. Finds kinds at l x)) where
-  pub not_nothing : l ≡ Nothing → {P : List RowToken → Nodes → Type 0} → OfNodes file kinds places tree at to P
+module _ {file kinds places tree : List ℕ} {at to : ℕ} (before : at < to) {l : Option Node} (o : Of tree kinds at to (λ x. Finds kinds at l x)) where
+  pub not_nothing : l ≡ None → {P : List RowToken → Nodes → Type 0} → OfNodes file kinds places tree at to P
   unfolding empty
   not_nothing e {P} = record {
     says = λ row r x st.
@@ -75,14 +76,14 @@ module _ {file kinds places tree : List ℕ} {at to : ℕ} (before : at < to) {l
       never : false ≡ empty none → ⊥
       never q = true≢false (sym q)
 
-  module _ {s t n : ℕ} (e : l ≡ Node s t n) where
-    pub token_there : NodesStand tree kinds at to → SomeRow file kinds places → t < length places
-    token_there ns row =
+  module _ {d : Node} (e : l ≡ Some d) where
+    pub token_there : NodesStand tree kinds at to → ∥ SomeRow file kinds places ∥₁ → d.token < length places
+    token_there ns h = ∥∥₁_elim h le_prop (λ row.
         let f = found_there kinds at ns.nodes (o ns.nodes ns.stands) e in
-        omega (arith, f.2, (first ns.stands before).known, as_long row.seen, places_as_long row.seen)
+        omega (arith, f.2, (first ns.stands before).known, as_long row.seen, places_as_long row.seen))
 
-    pub node_told : {text : List ℕ} → text ≡ word_in format file (get_or places t 0) (found format file (get_or places t 0)) → {table : List ℕ} {item : ℕ} {r : Bool}
-        → OfItem table item (λ i _. r ≡ fits i (shape_seen s text)) → OfNodes file kinds places tree at to (λ row x. OfItem table item (λ i _. r ≡ fits i (first_seen row x)))
+    pub node_told : {text : List ℕ} → text ≡ word_in format file (get_or places d.token 0) (found format file (get_or places d.token 0)) → {table : List ℕ} {item : ℕ} {r : Bool}
+        → OfItem table item (λ i _. r ≡ fits i (shape_seen d.shape text)) → OfNodes file kinds places tree at to (λ row x. OfItem table item (λ i _. r ≡ fits i (first_seen row x)))
     node_told {text} q h = record {
       says = λ row r x st i n' stands.
           let f = found_there kinds at x (o x st) e in

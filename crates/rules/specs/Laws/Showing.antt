@@ -12,8 +12,9 @@ use Rattle.std.proofs.Math.Facts.{and_yes}
 use Rattle.rows.specs.Laws.Tests.{by_if}
 use Rattle.rows.specs.Format.{longest_word}
 use Rattle.rows.specs.Records.{in_range}
-use Rattle.text.specs.Text.{Appended}
-use Rattle.text.specs.Laws.Appending.{appended_then, appended_none, appended_as}
+use Rattle.text.specs.declared.Text.{Text}
+use Rattle.text.specs.Puts.{Puts}
+use Rattle.text.specs.Laws.Appending.{puts_then, puts_none, puts_as}
 use Rattle.rules.specs.Rules.{Item, word, kind, group, list, any, Rule, good_item, good_items, good_word}
 use borrow.Author.Tests.{eq-eqb, ne_eqb}
 use Rattle.rules.specs.RuleTable.{RuleFound, no_rule, a_rule, ItemFound, no_item, item, any_byte, item_bytes, items_from, item_at, rest_at, front, with_item, most_items, after_two}
@@ -27,52 +28,50 @@ use Rattle.rules.specs.Laws.Pairs.{stand_good}
 module _ (table : List ℕ) where
   -- ---- one item
 
-  pub item_put : {item at r end : ℕ} {before after : List ℕ} → SomeItem table item → OfItem table item (λ i n. end ≡ n)
-      → Appended before at (take (end - item) (drop item table)) r after → OfItem table item (λ i n. Appended before at (item_bytes i) r after)
-  item_put {item} {end = end} some en h i n s = appended_as (ap (λ (m : ℕ). take (m - item) (drop item table)) (en i n s) ∙ s.is) h
+  pub item_put : {item end : ℕ} {before after : Text} → SomeItem table item → OfItem table item (λ i n. end ≡ n)
+      → Puts before (take (end - item) (drop item table)) after → OfItem table item (λ i n. Puts before (item_bytes i) after)
+  item_put {item} {end = end} some en h i n s = puts_as (ap (λ (m : ℕ). take (m - item) (drop item table)) (en i n s) ∙ s.is) h
 
   -- ---- all that count
 
   -- The items so far stand in the buffer, and it has room for those left.
-  pub record PutLoop (before : List ℕ) (begin end first : ℕ) (now : List ℕ) (at item : ℕ) : Type 0 where
+  pub record PutLoop (before : Text) (end first : ℕ) (now : Text) (item : ℕ) : Type 0 where
     pub whole : Rule
     pub whole_stands : ItemsStand table end first whole
     pub inside : end ≤ length table
     pub left : Rule
     pub left_stands : ItemsStand table end item left
     pub done : List ℕ
-    pub put : Appended before begin done at now
+    pub put : Puts before done now
     pub same : done ++ items_bytes left.items ≡ items_bytes whole.items
-    pub room : at + length (items_bytes left.items) ≤ length now
-    pub kept : length now ≡ length before
+    pub room : now.end + length (items_bytes left.items) ≤ length now.bytes.now
 
-  pub put_begins : {before : List ℕ} {begin end first : ℕ} → ItemsRoom table end first begin before → PutLoop before begin end first before begin first
-  put_begins {before} {begin} r = record {
+  pub put_begins : {before : Text} {end first : ℕ} → ItemsRoom table end first before.end before.bytes.now → PutLoop before end first before first
+  put_begins {before} r = record {
     whole = r.some;
     whole_stands = r.stands;
     inside = r.inside;
     left = r.some;
     left_stands = r.stands;
     done = [];
-    put = appended_none before begin;
+    put = puts_none before;
     same = refl;
     room = r.room;
-    kept = refl;
   }
 
-  module _ {before : List ℕ} {begin end first : ℕ} {now : List ℕ} {at item : ℕ} (p : PutLoop before begin end first now at item) where
-    pub put_ends : counts table end item ≡ false → OfItems table end first (λ is. Appended before begin (items_bytes is) at now)
+  module _ {before : Text} {end first : ℕ} {now : Text} {item : ℕ} (p : PutLoop before end first now item) where
+    pub put_ends : counts table end item ≡ false → OfItems table end first (λ is. Puts before (items_bytes is) now)
     unfolding items_bytes
     put_ends e r s =
         let none : items_bytes p.left.items ≡ [] = ap (λ (x : Rule). items_bytes x.items) (counts_none table p.left_stands e) in
-        appended_as (sym (append-nil p.done) ∙ ap (λ (l : List ℕ). p.done ++ l) (sym none) ∙ p.same ∙ ap (λ (x : Rule). items_bytes x.items) (one_list table p.whole_stands s)) p.put
+        puts_as (sym (append-nil p.done) ∙ ap (λ (l : List ℕ). p.done ++ l) (sym none) ∙ p.same ∙ ap (λ (x : Rule). items_bytes x.items) (one_list table p.whole_stands s)) p.put
 
     module _ (e : counts table end item ≡ true) where
       bytes_left : let o = counts_more table p.left_stands e in items_bytes p.left.items ≡ item_bytes o.the_item ++ items_bytes o.others
       unfolding items_bytes
       bytes_left = let o = counts_more table p.left_stands e in ap items_bytes o.is
 
-      pub put_room : ItemRoom table item at now
+      pub put_room : ItemRoom table item now.end now.bytes.now
       put_room =
           let o = counts_more table p.left_stands e in
           record {
@@ -83,9 +82,8 @@ module _ (table : List ℕ) where
       pub put_some : SomeItem table item
       put_some = put_room.some
 
-      pub put_again : {r end' : ℕ} {after : List ℕ} → OfItem table item (λ i n. Appended now at (item_bytes i) r after) → OfItem table item (λ i n. end' ≡ n)
-          → length after ≡ length now → PutLoop before begin end first after r end'
-      put_again {r} {end'} {after} h en long =
+      pub put_again : {end' : ℕ} {after : Text} → OfItem table item (λ i n. Puts now (item_bytes i) after) → OfItem table item (λ i n. end' ≡ n) → PutLoop before end first after end'
+      put_again {end'} {after} h en =
           let o = counts_more table p.left_stands e in
           let a = h o.the_item o.next o.item_stands in
           let there : end' ≡ o.next = en o.the_item o.next o.item_stands in
@@ -96,10 +94,9 @@ module _ (table : List ℕ) where
             left = record { items = o.others; rest = p.left.rest };
             left_stands = subst (λ (n : ℕ). ItemsStand table end n (record { items = o.others; rest = p.left.rest })) (sym there) o.later;
             done = p.done ++ item_bytes o.the_item;
-            put = appended_then p.put a;
+            put = puts_then p.put a;
             same = append_assoc p.done (item_bytes o.the_item) (items_bytes o.others) ∙ ap (λ (l : List ℕ). p.done ++ l) (sym bytes_left) ∙ p.same;
-            room = omega (arith, p.room, long, a.counts, ap length bytes_left, length-append (item_bytes o.the_item) (items_bytes o.others));
-            kept = long ∙ p.kept;
+            room = omega (arith, p.room, a.as_long, a.appended.counts, ap length bytes_left, length-append (item_bytes o.the_item) (items_bytes o.others));
           }
 
       pub put_further : {end' : ℕ} → OfItem table item (λ i n. end' ≡ n) → (item < end') × (end' ≤ end)
@@ -183,26 +180,24 @@ module _ (table : List ℕ) where
   -- ---- two rules
 
   -- The items so far stand in the buffer, and it has room for those left.
-  module _ (before : List ℕ) (a a' b b' : ℕ) where
-    pub record ShowLoop (now : List ℕ) (at x y : ℕ) : Type 0 where
+  module _ (before : Text) (a a' b b' : ℕ) where
+    pub record ShowLoop (now : Text) (x y : ℕ) : Type 0 where
       pub rules : TwoRules table a a' b b' x y
       pub done : List ℕ
-      pub put : Appended before 0 done at now
+      pub put : Puts before done now
       pub same : done ++ items_bytes (shown rules.left.items rules.left'.items) ≡ items_bytes (shown rules.first.items rules.second.items)
-      pub room : at + length (items_bytes (shown rules.left.items rules.left'.items)) ≤ length now
-      pub kept : length now ≡ length before
+      pub room : now.end + length (items_bytes (shown rules.left.items rules.left'.items)) ≤ length now.bytes.now
 
-    pub show_begins : SomeRule table a' a → SomeRule table b' b → longest_shown ≤ length before → ShowLoop before 0 a b
+    pub show_begins : SomeRule table a' a → SomeRule table b' b → before.end + longest_shown ≤ length before.bytes.now → ShowLoop before a b
     show_begins s t p = record {
       rules = two_begin table a a' b b' s t;
       done = [];
-      put = appended_none before 0;
+      put = puts_none before;
       same = refl;
       room = omega (arith, shown_bound s.stands t.stands, p);
-      kept = refl;
     }
 
-    module _ {now : List ℕ} {at x y : ℕ} (l : ShowLoop now at x y) (e : (counts table a' x && counts table b' y) ≡ true) where
+    module _ {now : Text} {x y : ℕ} (l : ShowLoop now x y) (e : (counts table a' x && counts table b' y) ≡ true) where
       both_true : (c d : Bool) → (c && d) ≡ true → (c ≡ true) × (d ≡ true)
       both_true true d h = (refl, h)
       both_true false d h = absurd (true≢false (sym h))
@@ -227,26 +222,25 @@ module _ (table : List ℕ) where
         somewhere : StandsSomewhere table it (shown_item one.the_item two.the_item)
         somewhere = h _ _ one.item_stands _ _ two.item_stands
 
-        pub show_room : ItemRoom table it at now
+        pub show_room : ItemRoom table it now.end now.bytes.now
         show_room = record {
           some = record { the_item = shown_item one.the_item two.the_item; next = somewhere.next; stands = somewhere.stands };
           room = omega (arith, l.room, ap length bytes_shown, length-append (item_bytes (shown_item one.the_item two.the_item)) (items_bytes (shown one.others two.others)));
         }
 
-        pub show_again : {r x' y' : ℕ} {after : List ℕ} → OfItem table it (λ i n. Appended now at (item_bytes i) r after)
-            → OfItem table x (λ i n. x' ≡ n) → OfItem table y (λ i n. y' ≡ n) → length after ≡ length now → ShowLoop after r x' y'
-        show_again {r} {x'} {y'} {after} put en en' long =
+        pub show_again : {x' y' : ℕ} {after : Text} → OfItem table it (λ i n. Puts now (item_bytes i) after) → OfItem table x (λ i n. x' ≡ n) → OfItem table y (λ i n. y' ≡ n)
+            → ShowLoop after x' y'
+        show_again {x'} {y'} {after} put en en' =
             let u = put _ _ somewhere.stands in
             record {
               rules = two_on table a a' b b' l.rules one two en en';
               done = l.done ++ item_bytes (shown_item one.the_item two.the_item);
-              put = appended_then l.put u;
+              put = puts_then l.put u;
               same =
                   append_assoc l.done (item_bytes (shown_item one.the_item two.the_item)) (items_bytes (shown one.others two.others))
                   ∙ ap (λ (z : List ℕ). l.done ++ z) (sym bytes_shown)
                   ∙ l.same;
-              room = omega (arith, l.room, long, u.counts, ap length bytes_shown, length-append (item_bytes (shown_item one.the_item two.the_item)) (items_bytes (shown one.others two.others)));
-              kept = long ∙ l.kept;
+              room = omega (arith, l.room, u.as_long, u.appended.counts, ap length bytes_shown, length-append (item_bytes (shown_item one.the_item two.the_item)) (items_bytes (shown one.others two.others)));
             }
 
       pub show_further : {x' : ℕ} → OfItem table x (λ i n. x' ≡ n) → (x < x') × (x' ≤ a')
@@ -262,7 +256,7 @@ module _ (table : List ℕ) where
         some : (k : Item) (ks : List Item) → k ∷ ks ≡ [] → ⊥
         some k ks e = let clash : ◌≡◌ {A = ℕ} (suc (length ks)) 0 = ap length e in absurd (omega (arith, clash))
 
-    module _ {now : List ℕ} {at x y : ℕ} (l : ShowLoop now at x y) (e : (counts table a' x && counts table b' y) ≡ false) where
+    module _ {now : Text} {x y : ℕ} (l : ShowLoop now x y) (e : (counts table a' x && counts table b' y) ≡ false) where
       one_empty : (l.rules.left.items ≡ []) ⊎ (l.rules.left'.items ≡ [])
       one_empty = by (counts table a' x) refl
         where
@@ -273,7 +267,7 @@ module _ (table : List ℕ) where
       follow : items_bytes (shown l.rules.left.items l.rules.left'.items) ≡ items_bytes l.rules.left.items ++ items_bytes l.rules.left'.items
       follow = joined l.rules.left.items l.rules.left'.items one_empty
 
-      pub show_first_room : ItemsRoom table a' x at now
+      pub show_first_room : ItemsRoom table a' x now.end now.bytes.now
       show_first_room = record {
         some = l.rules.left;
         stands = l.rules.items;
@@ -281,24 +275,24 @@ module _ (table : List ℕ) where
         room = omega (arith, l.room, ap length follow, length-append (items_bytes l.rules.left.items) (items_bytes l.rules.left'.items));
       }
 
-      module _ {r : ℕ} {mid : List ℕ} (h : OfItems table a' x (λ is. Appended now at (items_bytes is) r mid)) (long : length mid ≡ length now) where
-        pub show_second_room : ItemsRoom table b' y r mid
-        show_second_room = record {
+      module _ {mid : Text} (h : OfItems table a' x (λ is. Puts now (items_bytes is) mid)) where
+        pub show_second_room : ItemsRoom table b' y mid.end mid.bytes.now
+        show_second_room = let u = h l.rules.left l.rules.items in record {
           some = l.rules.left';
           stands = l.rules.items';
           inside = l.rules.second_stands.inside;
-          room = omega (arith, l.room, long, (h l.rules.left l.rules.items).counts, ap length follow, length-append (items_bytes l.rules.left.items) (items_bytes l.rules.left'.items));
+          room = omega (arith, l.room, u.as_long, u.appended.counts, ap length follow, length-append (items_bytes l.rules.left.items) (items_bytes l.rules.left'.items));
         }
 
-        pub show_ends : {r' : ℕ} {after : List ℕ} → OfItems table b' y (λ js. Appended mid r (items_bytes js) r' after)
-            → OfRules table a' a b' b (λ p q. Appended before 0 (items_bytes (shown p.items q.items)) r' after)
-        show_ends {r'} {after} h' = record {
+        pub show_ends : {after : Text} → OfItems table b' y (λ js. Puts mid (items_bytes js) after)
+            → OfRules table a' a b' b (λ p q. Puts before (items_bytes (shown p.items q.items)) after)
+        show_ends {after} h' = record {
           says = λ p q s t.
-              appended_as
+              puts_as
               (append_assoc l.done (items_bytes l.rules.left.items) (items_bytes l.rules.left'.items)
               ∙ ap (λ (z : List ℕ). l.done ++ z) (sym follow)
               ∙ l.same
               ∙ ap (λ (z : Rule). items_bytes (shown z.items l.rules.second.items)) (one_rule table l.rules.first_stands s)
               ∙ ap (λ (z : Rule). items_bytes (shown p.items z.items)) (one_rule table l.rules.second_stands t))
-              (appended_then (appended_then l.put (h l.rules.left l.rules.items)) (h' l.rules.left' l.rules.items'));
+              (puts_then (puts_then l.put (h l.rules.left l.rules.items)) (h' l.rules.left' l.rules.items'));
         }

@@ -1,6 +1,6 @@
 -- The loops that read a rule's items and a table's rules. Assumes nothing.
 use Prim.Native.Nat.{ℕ, zero, suc, ◌+◌, ◌-◌, ◌≤◌, ◌<◌}
-use Rattle.std.specs.Prelude.{◌≡◌, ◌≢◌, ◌&&◌, length, get_or, set, leb, eqb, T, if◌then◌else◌}
+use Rattle.std.specs.Prelude.{◌≡◌, ◌≢◌, ◌&&◌, length, get_or, set, leb, eqb, T, if◌then◌else◌, None, Option, Some}
 use Rattle.std.proofs.Math.Path.{refl, sym, ap}
 use Rattle.std.proofs.Common.{◌∙◌, subst, arith, lt_of_not-le, length-append, length-set, get_or-set_other, leb→le}
 use Rattle.std.proofs.Math.Bool.{Bool, true, false}
@@ -19,24 +19,22 @@ use Rattle.rules.specs.Overlaps.{rule}
 use Rattle.rules.specs.ItemsStand.{item_read, RuleStands}
 use Rattle.rules.specs.Laws.Stand.{item_found}
 use Rattle.rules.specs.TableStands.{is_rule, rule_read, RulesStand, RulesRead}
-use Rattle.rules.specs.declared.items.ItemRead.{ItemRead}
-use Rattle.rules.specs.declared.table.RuleRead.{RuleRead}
 
 -- ---- what was read
 
-abbrev is_item : ItemRead → ℕ
-is_item (ItemRead.Item next) = 1
-is_item ItemRead.Malformed = 0
+abbrev is_item : Option ℕ → ℕ
+is_item (Some next) = 1
+is_item None = 0
 
-abbrev end_in : ItemRead → ℕ
-end_in (ItemRead.Item next) = next
-end_in ItemRead.Malformed = 0
+abbrev end_in : Option ℕ → ℕ
+end_in (Some next) = next
+end_in None = 0
 
-pub none_read : (x : ItemFound) → ItemRead.Malformed ≡ item_read x → x ≡ no_item
+pub none_read : (x : ItemFound) → None ≡ item_read x → x ≡ no_item
 none_read no_item e = refl
 none_read (item i next) e = let clash : ◌≡◌ {A = ℕ} 0 1 = ap is_item e in absurd (omega (arith, clash))
 
-pub item_was_read : (x : ItemFound) {next : ℕ} → ItemRead.Item next ≡ item_read x → (i : Item) × (x ≡ item i next)
+pub item_was_read : (x : ItemFound) {next : ℕ} → Some next ≡ item_read x → (i : Item) × (x ≡ item i next)
 item_was_read no_item e = let clash : ◌≡◌ {A = ℕ} 1 0 = ap is_item e in absurd (omega (arith, clash))
 item_was_read (item i n) e = (i, ap (λ (m : ℕ). item i m) (sym (ap end_in e)))
 
@@ -129,11 +127,11 @@ module _ (table : List ℕ) (end begin : ℕ) where
           goes_on =
               f.same ∙ ap (λ (n : ℕ). is_rule (items_from table end n at)) one ∙ ap is_rule (items_item table end at (f.left - 1) (λ q. absurd (omega (arith, q))) d)
 
-          pub fill_malformed : {r : ItemRead} → r ≡ item_read (item_at table end at) → r ≡ ItemRead.Malformed → false ≡ is_rule (items_from table end most_items begin)
+          pub fill_malformed : {r : Option ℕ} → r ≡ item_read (item_at table end at) → r ≡ None → false ≡ is_rule (items_from table end most_items begin)
           unfolding with_item
           fill_malformed h e = sym (goes_on ∙ ap (λ (x : ItemFound). is_rule (with_item x (λ next. items_from table end (f.left - 1) next))) (none_read (item_at table end at) (sym e ∙ h)))
 
-          module _ {r : ItemRead} {next : ℕ} (h : r ≡ item_read (item_at table end at)) (e : r ≡ ItemRead.Item next) (whole : end ≤ length table) where
+          module _ {r : Option ℕ} {next : ℕ} (h : r ≡ item_read (item_at table end at)) (e : r ≡ Some next) (whole : end ≤ length table) where
             pub fill_further : (at < next) × (next ≤ end)
             fill_further = let x = item_was_read (item_at table end at) (sym e ∙ h) in let y = item_found table end at p whole x.1 in (y.1, y.2)
 
@@ -151,55 +149,55 @@ module _ (table : List ℕ) (end begin : ℕ) where
 -- ---- a rule's record
 
 module _ (table : List ℕ) (at size : ℕ) (is_size : size ≡ rule_length table at) where
-  abbrev told : RuleRead
+  abbrev told : Option ℕ
   told = rule_read (at + rule_length table at) (rule_at table at)
 
-  pub head_cut_off : length table < at + at_items → RuleRead.Malformed ≡ told
+  pub head_cut_off : length table < at + at_items → None ≡ told
   unfolding rule_at rule_head
   head_cut_off p = sym (rw (lt-leb (at + at_items) (length table) p) refl)
 
   module _ (whole : at + at_items ≤ length table) where
-    pub other_kind : little_endian short_bytes table (at + at_kind) ≢ rule_kind → RuleRead.Malformed ≡ told
+    pub other_kind : little_endian short_bytes table (at + at_kind) ≢ rule_kind → None ≡ told
     unfolding rule_at rule_head
     other_kind d = sym (rw (le-leb (at + at_items) (length table) whole, ne_eqb (little_endian short_bytes table (at + at_kind)) rule_kind d) refl)
 
     module _ (kind : little_endian short_bytes table (at + at_kind) ≡ rule_kind) where
-      pub no_items : size ≤ at_items → RuleRead.Malformed ≡ told
+      pub no_items : size ≤ at_items → None ≡ told
       unfolding rule_at rule_head
       no_items p =
           sym (rw (le-leb (at + at_items) (length table) whole, eq-eqb (little_endian short_bytes table (at + at_kind)) rule_kind kind, lt-leb (at_items + 1) (rule_length table at) (omega (arith, is_size, p))) refl)
 
       module _ (some : at_items < size) where
-        pub record_cut_off : length table < at + size → RuleRead.Malformed ≡ told
+        pub record_cut_off : length table < at + size → None ≡ told
         unfolding rule_at rule_head
         record_cut_off p =
             sym (rw (le-leb (at + at_items) (length table) whole, eq-eqb (little_endian short_bytes table (at + at_kind)) rule_kind kind, le-leb (at_items + 1) (rule_length table at) (omega (arith, is_size, some)), lt-leb (at + rule_length table at) (length table) (omega (arith, is_size, p))) refl)
 
         pub record_whole : at + size ≤ length table → (b : Bool) → b ≡ is_rule (items_from table (at + size) most_items (at + at_items))
-            → (if b then RuleRead.Rule (at + size) else RuleRead.Malformed) ≡ told
+            → (if b then Some (at + size) else None) ≡ told
         unfolding rule_at rule_head
         record_whole p b e =
             rw (le-leb (at + at_items) (length table) whole, eq-eqb (little_endian short_bytes table (at + at_kind)) rule_kind kind, le-leb (at_items + 1) (rule_length table at) (omega (arith, is_size, some)), le-leb (at + rule_length table at) (length table) (omega (arith, is_size, p)), ← is_size, e) (by (items_from table (at + size) most_items (at + at_items)))
           where
-            by : (x : RuleFound) → (if is_rule x then RuleRead.Rule (at + size) else RuleRead.Malformed) ≡ rule_read (at + size) x
+            by : (x : RuleFound) → (if is_rule x then Some (at + size) else None) ≡ rule_read (at + size) x
             by no_rule = refl
             by (a_rule r) = refl
 
 -- ---- a table's rules
 
-abbrev is_read : RuleRead → ℕ
-is_read (RuleRead.Rule end) = 1
-is_read RuleRead.Malformed = 0
+abbrev is_read : Option ℕ → ℕ
+is_read (Some end) = 1
+is_read None = 0
 
-abbrev rule_end_in : RuleRead → ℕ
-rule_end_in (RuleRead.Rule end) = end
-rule_end_in RuleRead.Malformed = 0
+abbrev rule_end_in : Option ℕ → ℕ
+rule_end_in (Some end) = end
+rule_end_in None = 0
 
-no_rule_read : (end : ℕ) (x : RuleFound) → RuleRead.Malformed ≡ rule_read end x → x ≡ no_rule
+no_rule_read : (end : ℕ) (x : RuleFound) → None ≡ rule_read end x → x ≡ no_rule
 no_rule_read end no_rule e = refl
 no_rule_read end (a_rule r) e = let clash : ◌≡◌ {A = ℕ} 0 1 = ap is_read e in absurd (omega (arith, clash))
 
-rule_was_read : (end : ℕ) {end' : ℕ} (x : RuleFound) → RuleRead.Rule end' ≡ rule_read end x → (r : Rule) × (x ≡ a_rule r) × (end' ≡ end)
+rule_was_read : (end : ℕ) {end' : ℕ} (x : RuleFound) → Some end' ≡ rule_read end x → (r : Rule) × (x ≡ a_rule r) × (end' ≡ end)
 rule_was_read end no_rule e = let clash : ◌≡◌ {A = ℕ} 1 0 = ap is_read e in absurd (omega (arith, clash))
 rule_was_read end (a_rule r) e = (r, refl, ap rule_end_in e)
 
@@ -310,13 +308,13 @@ module _ (table : List ℕ) where
             let one : l.left ≡ suc (l.left - 1) = omega (arith, l.counted, more) in
             l.is ∙ ap (λ (n : ℕ). ahead l.so_far (rules_from table n at)) one ∙ ap (ahead l.so_far) (rules_open at (l.left - 1) p)
 
-        pub table_malformed : {r : RuleRead} → r ≡ rule_read (at + rule_length table at) (rule_at table at) → r ≡ RuleRead.Malformed → table_of table ≡ no_table
+        pub table_malformed : {r : Option ℕ} → r ≡ rule_read (at + rule_length table at) (rule_at table at) → r ≡ None → table_of table ≡ no_table
         unfolding ahead with_rule
         table_malformed h e =
             opened
             ∙ ap (λ (x : RuleFound). ahead l.so_far (with_rule x (rules_from table (l.left - 1) (at + rule_length table at)))) (no_rule_read (at + rule_length table at) (rule_at table at) (sym e ∙ h))
 
-        module _ {r : RuleRead} {end : ℕ} (h : r ≡ rule_read (at + rule_length table at) (rule_at table at)) (e : r ≡ RuleRead.Rule end) where
+        module _ {r : Option ℕ} {end : ℕ} (h : r ≡ rule_read (at + rule_length table at) (rule_at table at)) (e : r ≡ Some end) where
           read : (x : Rule) × (rule_at table at ≡ a_rule x) × (end ≡ at + rule_length table at)
           read = rule_was_read (at + rule_length table at) (rule_at table at) (sym e ∙ h)
 

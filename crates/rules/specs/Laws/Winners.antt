@@ -33,46 +33,44 @@ module _ (rs : List Rule) (k : ℕ) (ns : List Node) where
   unfolding winner_from
   none_wins p = ap (λ (l : List Rule). winner_from k l ns) (drop_of_length-le rs {i = k} p)
 
-module _ (table : List ℕ) (count : ℕ) (starts file kinds places tree : List ℕ) (nodes : ℕ) where
+module _ {table : List ℕ} {count : ℕ} {starts : List ℕ} (t : RulesRead table count starts) (file kinds places tree : List ℕ) (nodes : ℕ) where
   -- The rules from this place on decide.
   pub record WinnerLoop (place : ℕ) : Type 0 where
-    pub read : RulesRead table count starts
     pub same : (row : List RowToken) → RowSeen file kinds places row → (x : Nodes) → Stands tree kinds 0 nodes x
-        → winner read.rules (seen row x) ≡ winner_from place (drop place read.rules) (seen row x)
+        → winner t.rules (seen row x) ≡ winner_from place (drop place t.rules) (seen row x)
 
-  pub winner_begins : RulesRead table count starts → WinnerLoop 0
+  pub winner_begins : WinnerLoop 0
   unfolding winner
-  winner_begins t = record { read = t; same = λ row s x st. refl }
+  winner_begins = record { same = λ row s x st. refl }
 
-  pub place_told : (t : RulesRead table count starts) (place : ℕ) → place < count → {r : Bool}
+  pub place_told : (place : ℕ) → place < count → {r : Bool}
       → OfNodes file kinds places tree 0 nodes (λ row x. OfRule table (get_or starts (place + 1) 0) (get_or starts place 0 + at_items) (λ p. r ≡ matches p (seen row x)))
       → OfNodes file kinds places tree 0 nodes (λ row x. OfTable table (λ rs. r ≡ matches (rule rs place) (seen row x)))
-  place_told t place p {r} h = record {
+  place_told place p {r} h = record {
     says = λ row s x st. of_table table t {P = λ rs. r ≡ matches (rule rs place) (seen row x)} (h.says row s x st (rule t.rules place) (stands_at table t place p));
   }
 
   module _ {place : ℕ} (l : WinnerLoop place) where
     abbrev rs : List Rule
-    rs = l.read.rules
+    rs = t.rules
 
     told : {w : Winner} → ((row : List RowToken) → RowSeen file kinds places row → (x : Nodes) → Stands tree kinds 0 nodes x → w ≡ winner_from place (drop place rs) (seen row x))
         → OfNodes file kinds places tree 0 nodes (λ row x. OfTable table (λ rs'. w ≡ winner rs' (seen row x)))
-    told {w} h = record { says = λ row s x st. of_table table l.read {P = λ rs'. w ≡ winner rs' (seen row x)} (h row s x st ∙ sym (l.same row s x st)) }
+    told {w} h = record { says = λ row s x st. of_table table t {P = λ rs'. w ≡ winner rs' (seen row x)} (h row s x st ∙ sym (l.same row s x st)) }
 
     pub winner_ends : count ≤ place → OfNodes file kinds places tree 0 nodes (λ row x. OfTable table (λ rs'. no_winner ≡ winner rs' (seen row x)))
-    winner_ends p = told (λ row s x st. sym (none_wins rs place (seen row x) (omega (arith, l.read.counted, p))))
+    winner_ends p = told (λ row s x st. sym (none_wins rs place (seen row x) (omega (arith, t.counted, p))))
 
     module _ (p : place < count) {r : Bool} (h : OfNodes file kinds places tree 0 nodes (λ row x. OfTable table (λ rs'. r ≡ matches (rule rs' place) (seen row x)))) where
       matched : (row : List RowToken) → RowSeen file kinds places row → (x : Nodes) → Stands tree kinds 0 nodes x → r ≡ matches (rule rs place) (seen row x)
-      matched row s x st = (h.says row s x st).says rs l.read.is
+      matched row s x st = (h.says row s x st).says rs t.is
 
       pub winner_here : r ≡ true → OfNodes file kinds places tree 0 nodes (λ row x. OfTable table (λ rs'. wins place ≡ winner rs' (seen row x)))
-      winner_here e = told (λ row s x st. sym (wins_here rs place (seen row x) (omega (arith, l.read.counted, p)) (sym (matched row s x st) ∙ e)))
+      winner_here e = told (λ row s x st. sym (wins_here rs place (seen row x) (omega (arith, t.counted, p)) (sym (matched row s x st) ∙ e)))
 
       pub winner_again : r ≡ false → WinnerLoop (place + 1)
       winner_again e = record {
-        read = l.read;
-        same = λ row s x st. l.same row s x st ∙ goes_on rs place (seen row x) (omega (arith, l.read.counted, p)) (sym (matched row s x st) ∙ e);
+        same = λ row s x st. l.same row s x st ∙ goes_on rs place (seen row x) (omega (arith, t.counted, p)) (sym (matched row s x st) ∙ e);
       }
 
 -- ---- "The first rule that matches all top-level nodes wins"

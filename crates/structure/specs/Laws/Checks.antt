@@ -1,10 +1,10 @@
 -- What the four loops of the code say so far, and what they do at a node. Assumes nothing.
-use Rattle.std.specs.Prelude.{ℕ, suc, ◌+◌, ◌-◌, ◌≤◌, ◌<◌, ◌≡◌, Bool, ◌&&◌, ◌||◌, not, List, eqb}
+use Rattle.std.specs.Prelude.{ℕ, suc, ◌+◌, ◌-◌, ◌≤◌, ◌<◌, ◌≡◌, Bool, ◌&&◌, ◌||◌, not, List, eqb, Ok}
 use Rattle.std.proofs.Math.Path.{refl, ap}
 use Rattle.std.proofs.Common.{sym, ◌∙◌, subst, true≢false, zero-add}
 use Rattle.std.proofs.Math.Bool.{true, false}
 use borrow.Author.Tests.{eqb-true}
-use Rattle.rows.specs.Laws.Tests.{and_false}
+use Rattle.std.proofs.Math.Bool.{and-false}
 use Rattle.rows.specs.Languages.{Cpp}
 use Rattle.rows.specs.Kinds.{Identifier, Integer, Scope}
 use Rattle.rows.specs.Words.{no_word, exactly}
@@ -13,7 +13,7 @@ use Rattle.type_nodes.specs.Shapes.{NoNode, TemplateArguments}
 use Rattle.type_nodes.specs.Nodes.{empty, next, shape, node_identifier, exact_word, is_single_token}
 use Rattle.type_nodes.specs.Sets.{is_c_builtin_type_word, is_c_family_declarator_qualifier}
 use Rattle.type_nodes.specs.Moves.{Move, stop, on, inside, on_if, arguments}
-use Rattle.type_nodes.specs.Laws.Tests.{and_left, and_right}
+use Rattle.std.proofs.lemmas.Bool.{and_parts}
 use Rattle.type_nodes.specs.Laws.SpecifierLoop.{word_specified}
 use Rattle.type_nodes.specs.Specifiers.{validate_c_decl_specifiers}
 use Rattle.type_nodes.specs.Stands.{Of, below}
@@ -25,7 +25,7 @@ use Rattle.structure.specs.Checks.{checked, turn, loop, type_move, declarator_mo
 use Rattle.structure.specs.Checks.{validate_c_family_type, validate_expression, validate_abstract_declarator}
 use Rattle.structure.specs.FortranTypes.{validate_fortran_type}
 use Rattle.structure.specs.RepresentedMoves.{type_state_of, type_move_of, declarator_state_of, declarator_move_of, expression_state_of, expression_move_of}
-use Rattle.structure.specs.RepresentedMoves.{fortran_state_of, fortran_move_of, Moves, Waits}
+use Rattle.structure.specs.RepresentedMoves.{TypeMove, DeclaratorMove, ExpressionMove, FortranMove, fortran_state_of, fortran_move_of, Moves, Waits}
 use Rattle.structure.specs.Laws.Fixed.{fixed}
 use Rattle.structure.specs.Laws.Walks.{after_it}
 use Rattle.structure.specs.VerdictSays.{VerdictSays}
@@ -33,17 +33,12 @@ use Rattle.structure.specs.Laws.Limits.{limited_entry, limited_yes, limited_both
 use Rattle.structure.specs.Laws.Tables.{word_taken, scope_taken, list_taken}
 use Rattle.structure.specs.Laws.Loops.{Run, turn_on, turn_end}
 use Rattle.structure.specs.Allowance.{verdict_within}
-use Rattle.structure.specs.declared.moves.Verdict.TheVariants.{Holds}
 use Rattle.structure.specs.declared.moves.Inner.{Inner}
 use Rattle.structure.specs.declared.moves.TypeLoop.{TypeLoop}
-use Rattle.structure.specs.declared.moves.TypeMove.{TypeMove}
 use Rattle.structure.specs.declared.moves.DeclaratorLoop.{DeclaratorLoop}
-use Rattle.structure.specs.declared.moves.DeclaratorMove.{DeclaratorMove}
 use Rattle.structure.specs.declared.moves.ExpressionLoop.{ExpressionLoop}
-use Rattle.structure.specs.declared.moves.ExpressionMove.{ExpressionMove}
-use Rattle.structure.specs.declared.moves.ExpressionMove.TheVariants as E
 use Rattle.structure.specs.declared.moves.FortranLoop.{FortranLoop}
-use Rattle.structure.specs.declared.moves.FortranMove.{FortranMove}
+use Rattle.structure.specs.declared.moves.Move.TheVariants.{On, Inside}
 
 -- ---- the entries
 
@@ -92,7 +87,7 @@ module _ (lang : ℕ) (kinds words : List ℕ) where
 -- ---- a type of one word
 
 module _ (lang : ℕ) (kinds words : List ℕ) where
-  twice_yes : (left : ℕ) → on_holds (verdict_within left (plain true)) (λ l. verdict_within l (plain true)) ≡ Holds left
+  twice_yes : (left : ℕ) → on_holds (verdict_within left (plain true)) (λ l. verdict_within l (plain true)) ≡ Ok left
   unfolding on_holds
   twice_yes left = rw (limited_yes left) (limited_yes left)
 
@@ -111,15 +106,15 @@ module _ (lang : ℕ) (kinds words : List ℕ) where
   unfolding is_single_token shape empty next
   word_passes none y = absurd (true≢false (sym y))
   word_passes (node k i b none) y =
-      let single : (eqb (shape kinds (node k i b none)) Identifier && true) ≡ true = and_left _ (eqb (exact_word kinds words (node k i b none)) no_word || is_c_builtin_type_word (exact_word kinds words (node k i b none))) y in
-      let s : shape kinds (node k i b none) ≡ Identifier = eqb-true _ Identifier (and_left (eqb (shape kinds (node k i b none)) Identifier) true single) in
-      (word_specified lang kinds words (node k i b none) refl refl s (and_right (eqb (shape kinds (node k i b none)) Identifier && true) _ y), word_body (node k i b none) refl refl s)
+      let single : (eqb (shape kinds (node k i b none)) Identifier && true) ≡ true = (and_parts _ (eqb (exact_word kinds words (node k i b none)) no_word || is_c_builtin_type_word (exact_word kinds words (node k i b none))) y).0 in
+      let s : shape kinds (node k i b none) ≡ Identifier = eqb-true _ Identifier (and_parts (eqb (shape kinds (node k i b none)) Identifier) true single).0 in
+      (word_specified lang kinds words (node k i b none) refl refl s (and_parts (eqb (shape kinds (node k i b none)) Identifier && true) _ y).1, word_body (node k i b none) refl refl s)
   word_passes (node k i b (node l j c x)) y =
-      let none_here : (eqb (shape kinds (node k i b (node l j c x))) Identifier && false) ≡ true = and_left _ (eqb (exact_word kinds words (node k i b (node l j c x))) no_word || is_c_builtin_type_word (exact_word kinds words (node k i b (node l j c x)))) y in
-      absurd (true≢false (sym none_here ∙ and_false (eqb (shape kinds (node k i b (node l j c x))) Identifier)))
+      let none_here : (eqb (shape kinds (node k i b (node l j c x))) Identifier && false) ≡ true = (and_parts _ (eqb (exact_word kinds words (node k i b (node l j c x))) no_word || is_c_builtin_type_word (exact_word kinds words (node k i b (node l j c x)))) y).0 in
+      absurd (true≢false (sym none_here ∙ and-false (eqb (shape kinds (node k i b (node l j c x))) Identifier)))
 
   pub word_type : {tree : List ℕ} {from to allowed : ℕ} → 0 < allowed → {r : Bool} → Of tree kinds from to (λ x. r ≡ one_word x) → r ≡ true
-      → VerdictSays tree kinds from to allowed (checked lang kinds words a_type) (Holds (allowed - 1))
+      → VerdictSays tree kinds from to allowed (checked lang kinds words a_type) (Ok (allowed - 1))
   word_type {tree} {from} {to} {allowed} h {r} one y = record {
     says = λ x s.
         let p : (validate_c_decl_specifiers lang kinds words x ≡ true) × (type_body lang kinds words x ≡ plain true) = word_passes x (sym (one x s) ∙ y) in
@@ -216,10 +211,10 @@ module _ {lang : ℕ} {tree kinds words : List ℕ} {from to allowed left : ℕ}
   expression_moved q = rw (← sh lp.walk.rest lp.walk.stands) (sym mv.is ∙ ap expression_move_of q)
 
 module _ {n : ℕ} {m : ExpressionMove} {a : Move ExpressionState} (mv : Moves n m a) where
-  pub waits_on : {st : ExpressionLoop} → m ≡ E.On st → st.conditional_depth ≤ n
+  pub waits_on : {st : ExpressionLoop} → m ≡ On st → st.conditional_depth ≤ n
   waits_on q = subst (λ (u : ExpressionMove). Waits n u) q mv.waits
 
-  pub waits_inside : {t : Inner} {st : ExpressionLoop} → m ≡ E.Inside t st → st.conditional_depth ≤ n
+  pub waits_inside : {t : Inner} {st : ExpressionLoop} → m ≡ Inside t st → st.conditional_depth ≤ n
   waits_inside q = subst (λ (u : ExpressionMove). Waits n u) q mv.waits
 
 module _ {lang : ℕ} {tree kinds words : List ℕ} {from to allowed left : ℕ} {st : FortranLoop} {at : ℕ}

@@ -1,6 +1,6 @@
 -- The walks over the parts between commas and over the arguments of a list: `every` of them, `whole` the check of the whole list.
 -- Assumes nothing.
-use Rattle.std.specs.Prelude.{ℕ, suc, ◌+◌, ◌≤◌, ◌<◌, ◌≡◌, refl, true, false, List, [], ◌∷◌, length}
+use Rattle.std.specs.Prelude.{ℕ, suc, ◌+◌, ◌≤◌, ◌<◌, ◌≡◌, refl, true, false, List, [], ◌∷◌, length, Ok}
 use Rattle.std.proofs.Common.{sym, ap, ◌∙◌, subst, true≢false, arith}
 use Rattle.reader.specs.Nodes.{Nodes, none, node, count}
 use Rattle.type_nodes.specs.Nodes.{empty, next, arguments_of}
@@ -12,7 +12,6 @@ use Rattle.structure.specs.Said.{Said, both, plain, every}
 use Rattle.structure.specs.VerdictSays.{VerdictSays}
 use Rattle.structure.specs.Laws.Limits.{limited_yes}
 use Rattle.structure.specs.Laws.Walks.{Walk, Turn, walk_element, walk_ends, walk_on, after_it, below_it, walk_further}
-use Rattle.structure.specs.declared.moves.Verdict.TheVariants.{Holds}
 
 every_end : (f : Nodes → Said) → every f [] ≡ plain true
 unfolding every plain
@@ -76,7 +75,7 @@ module _ (f : Nodes → Said) {whole : Nodes → Said} {tree kinds : List ℕ} {
     }
 
   module _ (lp : AtComma f whole tree kinds from to allowed left at) where
-    pub elements_last : at ≡ to → VerdictSays tree kinds from to allowed whole (Holds left)
+    pub elements_last : at ≡ to → VerdictSays tree kinds from to allowed whole (Ok left)
     elements_last h =
         walk_ends lp true (ap (every f) (others_none kinds lp.rest (nothing_left lp.stands (omega arith))) ∙ every_end f) (sym (limited_yes left))
 
@@ -85,7 +84,7 @@ module _ (f : Nodes → Said) {whole : Nodes → Said} {tree kinds : List ℕ} {
         walk_on lp _ (ap (every f) (others_next kinds lp.rest (first lp.stands h).full)) (after_it lp h en) (omega (arith, walk_further lp h en))
 
   module _ (lp : InArguments f whole tree kinds from to allowed left at) where
-    pub arguments_end : to ≤ at → VerdictSays tree kinds from to allowed whole (Holds left)
+    pub arguments_end : to ≤ at → VerdictSays tree kinds from to allowed whole (Ok left)
     arguments_end h = walk_ends lp true (ap (every f) (arguments_none lp.rest (nothing_left lp.stands h)) ∙ every_end f) (sym (limited_yes left))
 
     pub arguments_turn : {e : ℕ} → at < to → Of tree kinds at to (λ x. e ≡ suc (at + count (below x)))

@@ -1,6 +1,6 @@
 -- The cases of what is asked of the nodes below a node, of an argument, a parameter and a selector: tests without steps before a check.
 -- Assumes nothing.
-use Rattle.std.specs.Prelude.{ℕ, suc, ◌+◌, ◌<◌, ◌≡◌, Bool, true, false, not, ◌&&◌, ◌||◌, List}
+use Rattle.std.specs.Prelude.{ℕ, suc, ◌+◌, ◌<◌, ◌≡◌, Bool, true, false, not, ◌&&◌, ◌||◌, List, Ok, Err}
 use Rattle.std.proofs.Math.Path.{refl, sym, ap}
 use Rattle.std.proofs.Common.{◌∙◌, subst}
 use borrow.Author.Tests.{eq-eqb, ne_eqb}
@@ -17,11 +17,10 @@ use Rattle.structure.specs.Said.{Said, both, either, plain, every, a_declarator}
 use Rattle.structure.specs.Checks.{checked, test, validate_parameter_type_list, validate_parameter}
 use Rattle.structure.specs.Selectors.{validate_fortran_selector, validate_fortran_selector_value, validate_fortran_selector_list}
 use Rattle.structure.specs.RepresentedMoves.{test_of}
-use Rattle.structure.specs.Allowance.{verdict_within}
+use Rattle.structure.specs.Allowance.{Verdict, verdict_within}
 use Rattle.structure.specs.VerdictSays.{VerdictSays, Answers, Passes}
-use Rattle.structure.specs.Laws.Limits.{on_holds, on_fails, Settles, limited_both, limited_either, limited_yes, limited_no}
-use Rattle.structure.specs.declared.moves.Verdict.{Verdict}
-use Rattle.structure.specs.declared.moves.Verdict.TheVariants.{Holds, Fails}
+use Rattle.structure.specs.Laws.Limits.{on_holds, on_fails, limited_both, limited_either, limited_yes, limited_no}
+use Rattle.structure.specs.declared.moves.Fault.TheVariants.{Fails, Spent}
 use Rattle.structure.specs.declared.moves.Inner.{Inner}
 
 -- ---- a test without steps, and a check
@@ -73,7 +72,7 @@ module _ {tree kinds : List ℕ} {from to left : ℕ} {what : Nodes → Said} wh
   by_name other e w = record { says = λ x s. w.says x s ∙ ap (verdict_within left) (sym (e x)) }
 
   module _ (b : Nodes → Bool) (g : Nodes → Said) (e : (x : Nodes) → what x ≡ either (plain (b x)) (λ _. g x)) where
-    pub either_held : Of tree kinds from to (λ x. true ≡ b x) → VerdictSays tree kinds from to left what (Holds left)
+    pub either_held : Of tree kinds from to (λ x. true ≡ b x) → VerdictSays tree kinds from to left what (Ok left)
     unfolding on_fails
     either_held o = record { says = λ x s. sym (rw (e x, ← o x s) (limited_either left _ _ ∙ rw (limited_yes left))) }
 
@@ -81,7 +80,7 @@ module _ {tree kinds : List ℕ} {from to left : ℕ} {what : Nodes → Said} wh
     either_else o w = record { says = λ x s. w.says x s ∙ sym (rw (e x, ← o x s) (plain_either left _)) }
 
   module _ (b : Nodes → Bool) (g : Nodes → Said) (e : (x : Nodes) → what x ≡ both (plain (b x)) (λ _. g x)) where
-    pub both_failed : Of tree kinds from to (λ x. false ≡ b x) → VerdictSays tree kinds from to left what (Fails left)
+    pub both_failed : Of tree kinds from to (λ x. false ≡ b x) → VerdictSays tree kinds from to left what (Err (Fails left))
     unfolding on_holds
     both_failed o = record { says = λ x s. sym (rw (e x, ← o x s) (limited_both left _ _ ∙ rw (limited_no left))) }
 
@@ -93,10 +92,15 @@ module _ {tree kinds : List ℕ} {from to left : ℕ} {what : Nodes → Said} wh
     tried : (x : Nodes) → Stands tree kinds from to x → verdict_within left (what x) ≡ on_fails v (λ l. verdict_within l (g x))
     tried x s = rw (e x) (limited_either left _ _ ∙ rw (← sv.says x s))
 
-    pub first_settles : Settles v → VerdictSays tree kinds from to left what v
-    first_settles q = record { says = λ x s. sym (tried x s ∙ q.settles _) }
+    pub first_held : {l : ℕ} → v ≡ Ok l → VerdictSays tree kinds from to left what (Ok l)
+    unfolding on_fails
+    first_held q = record { says = λ x s. sym (tried x s ∙ rw q) }
 
-    pub then_second : {l : ℕ} {u : Verdict} → v ≡ Fails l → VerdictSays tree kinds from to l g u → VerdictSays tree kinds from to left what u
+    pub first_spent : v ≡ Err Spent → VerdictSays tree kinds from to left what (Err Spent)
+    unfolding on_fails
+    first_spent q = record { says = λ x s. sym (tried x s ∙ rw q) }
+
+    pub then_second : {l : ℕ} {u : Verdict} → v ≡ Err (Fails l) → VerdictSays tree kinds from to l g u → VerdictSays tree kinds from to left what u
     unfolding on_fails
     then_second q w = record { says = λ x s. w.says x s ∙ sym (tried x s ∙ rw q) }
 
@@ -156,7 +160,7 @@ module _ (lang : ℕ) {tree kinds : List ℕ} (words : List ℕ) {from to : ℕ}
         unfolding validate_fortran_selector
         keyword x s = rw (← sh₁ x s, eq-eqb s₁ Identifier y₁, ← sh₂ (next x) (stands_next s h₁ en₁), eq-eqb s₂ Equal y₂)
 
-        pub selector_without : {left : ℕ} → b ≡ to → Answers validate_fortran_selector lang tree kinds words from to left (Fails left)
+        pub selector_without : {left : ℕ} → b ≡ to → Answers validate_fortran_selector lang tree kinds words from to left (Err (Fails left))
         unfolding on_holds
         selector_without {left} e = record { says = λ x s. sym (rw (keyword x s, ← no_node e _ (value_there s)) (limited_both left _ _ ∙ rw (limited_no left))) }
 

@@ -1,5 +1,5 @@
 -- The loops of the checks, laws of `loop`: one set for all four loops of the code. Assumes nothing.
-use Rattle.std.specs.Prelude.{ℕ, suc, ◌+◌, ◌-◌, ◌≤◌, ◌<◌, ◌≡◌, Bool, true, false, List}
+use Rattle.std.specs.Prelude.{ℕ, suc, ◌+◌, ◌-◌, ◌≤◌, ◌<◌, ◌≡◌, Bool, true, false, List, Ok, Err, IsErrAnd}
 use Rattle.std.proofs.Math.Path.{refl, sym}
 use Rattle.std.proofs.Common.{◌∙◌, true≢false, arith}
 use Rattle.rows.specs.Words.{no_word}
@@ -11,17 +11,17 @@ use Rattle.type_nodes.specs.Stands.{Stands, NodesStand, Of, below}
 use Rattle.type_nodes.specs.Laws.Siblings.{first, nothing_left}
 use Rattle.structure.specs.Said.{Said, after, both, plain}
 use Rattle.structure.specs.Checks.{checked, test, follow, loop}
-use Rattle.structure.specs.Allowance.{verdict_within}
+use Rattle.structure.specs.Allowance.{Verdict, verdict_within}
 use Rattle.structure.specs.VerdictSays.{VerdictSays, Passes}
-use Rattle.structure.specs.Laws.Limits.{limited_entry, limited_none, limited_yes, limited_no, limited_both, on_holds, Stops}
+use Rattle.structure.specs.Laws.Limits.{limited_entry, limited_none, limited_yes, limited_no, limited_both, on_holds}
 use Rattle.structure.specs.Laws.Walks.{Walk, Turn, walk_start, walk_ends, walk_on, walk_stops, walk_holds, after_it, below_it, walk_further}
-use Rattle.structure.specs.declared.moves.Verdict.{Verdict}
-use Rattle.structure.specs.declared.moves.Verdict.TheVariants.{Holds, Fails, Spent}
+use Rattle.structure.specs.declared.moves.Fault.{Fault}
+use Rattle.structure.specs.declared.moves.Fault.TheVariants.{Fails, Spent}
 
 -- ---- the entry to a check: one step
 
 module _ {tree kinds : List ℕ} {from to allowed : ℕ} {whole : Nodes → Said} where
-  pub entry_spent : (body : Nodes → Said) → ((x : Nodes) → whole x ≡ after 1 (body x)) → allowed ≡ 0 → VerdictSays tree kinds from to allowed whole Spent
+  pub entry_spent : (body : Nodes → Said) → ((x : Nodes) → whole x ≡ after 1 (body x)) → allowed ≡ 0 → VerdictSays tree kinds from to allowed whole (Err Spent)
   entry_spent body en e = record { says = λ x s. sym (rw (e, en x) (limited_none _)) }
 
   pub entry : (body : Nodes → Said) → ((x : Nodes) → whole x ≡ after 1 (body x)) → 0 < allowed
@@ -34,7 +34,7 @@ module _ {tree kinds : List ℕ} {from to allowed : ℕ} {whole : Nodes → Said
     headed : (x : Nodes) → Stands tree kinds from to x → verdict_within allowed (whole x) ≡ on_holds (verdict_within (allowed - 1) (plain d)) (λ l. verdict_within l (body x))
     headed x s = rw (en x, hd x s) (limited_entry allowed _ h ∙ limited_both (allowed - 1) _ _)
 
-    pub head_fails : d ≡ false → VerdictSays tree kinds from to allowed whole (Fails (allowed - 1))
+    pub head_fails : d ≡ false → VerdictSays tree kinds from to allowed whole (Err (Fails (allowed - 1)))
     unfolding on_holds
     head_fails e = record { says = λ x s. sym (headed x s ∙ rw (e, limited_no (allowed - 1))) }
 
@@ -127,10 +127,10 @@ module _ {lang : ℕ} {kinds words : List ℕ} {S : Type 0} {move : (left lw : �
             is = turn_inside lang kinds words S move done lp.walk.rest lp.left_shape lp.left_word st full_here t st' q;
           }
 
-          pub run_stops : Stops v → VerdictSays tree kinds from to allowed whole v
-          run_stops f = walk_stops lp.walk turned sv f
+          pub run_stops : {r : Verdict} {fault : Fault} → v ≡ Err fault → IsErrAnd r (λ y. y ≡ fault) → VerdictSays tree kinds from to allowed whole r
+          run_stops f o = walk_stops lp.walk turned sv f o
 
-          pub run_inside : {m : ℕ} {knows' : (left lw : ℕ) → Type 0} → v ≡ Holds m
+          pub run_inside : {m : ℕ} {knows' : (left lw : ℕ) → Type 0} → v ≡ Ok m
               → knows' (shape kinds lp.walk.rest) (node_identifier kinds words lp.walk.rest)
               → Run lang kinds words S move done whole knows' tree from to allowed m st' e
           run_inside f k = record {

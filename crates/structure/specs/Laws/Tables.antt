@@ -1,6 +1,6 @@
 -- The arms of the tables of moves: where the tests before an arm fail and its own holds, the table gives the arm's move.
 -- Assumes nothing.
-use Rattle.std.specs.Prelude.{ℕ, pred, ◌+◌, ◌≡◌, Bool, false, ◌&&◌, ◌||◌, not, if◌then◌else◌}
+use Rattle.std.specs.Prelude.{ℕ, zero, suc, pred, ◌+◌, ◌-◌, ◌≡◌, refl, Bool, false, ◌&&◌, ◌||◌, not, if◌then◌else◌}
 use Rattle.std.proofs.Math.Numerals.{add-one}
 use Rattle.std.proofs.Math.Path.{sym, ap}
 use Rattle.std.proofs.Common.{◌∙◌, arith}
@@ -16,11 +16,16 @@ use Rattle.type_nodes.specs.Sets.{reference_operators, typeof_words, literals, m
 use Rattle.type_nodes.specs.Sets.{is_c_family_declarator_qualifier, is_binary_or_assignment_operator}
 use Rattle.type_nodes.specs.Moves.{type_name, expression, some_expression, optional_expression, type_or_expression, array_bound, declarator, arguments}
 use Rattle.type_nodes.specs.Moves.{selectors, declarator_or_parameters, Move, stop, on, inside, on_if, inside_if}
-use Rattle.type_nodes.specs.Laws.Tests.{and_left, and_right}
+use Rattle.std.proofs.lemmas.Bool.{and_parts}
 use Rattle.structure.specs.Declarators.{scope_has_valid_neighbors, is_part_of_name, TypeState, DeclaratorState, type_state, declarator_state, abstract_declarator_node, c_family_group}
 use Rattle.structure.specs.Declarators.{c_family_node}
 use Rattle.structure.specs.Expressions.{ExpressionState, expression_state, expression_node}
 use Rattle.structure.specs.FortranTypes.{FortranState, fortran_state, fortran_node}
+
+-- One less, as code has it.
+one_less : (n : ℕ) → pred n ≡ n - 1
+one_less zero = refl
+one_less (suc n) = omega arith
 
 module _ (lang left s w right : ℕ) (operator reference : Bool) where
   abbrev declarator_table : Move DeclaratorState
@@ -147,16 +152,16 @@ module _ (lang left lw s w right : ℕ) (word started reference : Bool) where
   pub scope_taken : (eqb s Scope && (eqb lang Cpp && scope_has_valid_neighbors left right)) ≡ true → type_table lang left lw s w right word started reference ≡ on (type_state word started reference)
   unfolding on_if
   scope_taken y =
-      let z : s ≡ Scope = eqb-true s Scope (and_left (eqb s Scope) (eqb lang Cpp && scope_has_valid_neighbors left right) y) in
+      let z : s ≡ Scope = eqb-true s Scope (and_parts (eqb s Scope) (eqb lang Cpp && scope_has_valid_neighbors left right) y).0 in
       sym (type_2 lang left lw s w right word started reference (λ q. absurd (omega (arith, z, q))) z)
-      ∙ ap (λ (ok : Bool). on_if ok (type_state word started reference)) (and_right (eqb s Scope) (eqb lang Cpp && scope_has_valid_neighbors left right) y)
+      ∙ ap (λ (ok : Bool). on_if ok (type_state word started reference)) (and_parts (eqb s Scope) (eqb lang Cpp && scope_has_valid_neighbors left right) y).1
 
   pub list_taken : (eqb s TemplateArguments && (eqb lang Cpp && eqb left Identifier)) ≡ true → type_table lang left lw s w right word started reference ≡ inside arguments (type_state true started reference)
   unfolding inside_if
   list_taken y =
-      let z : s ≡ TemplateArguments = eqb-true s TemplateArguments (and_left (eqb s TemplateArguments) (eqb lang Cpp && eqb left Identifier) y) in
+      let z : s ≡ TemplateArguments = eqb-true s TemplateArguments (and_parts (eqb s TemplateArguments) (eqb lang Cpp && eqb left Identifier) y).0 in
       sym (type_3 lang left lw s w right word started reference (λ q. absurd (omega (arith, z, q))) (λ q. absurd (omega (arith, z, q))) z)
-      ∙ ap (λ (ok : Bool). inside_if ok arguments (type_state true started reference)) (and_right (eqb s TemplateArguments) (eqb lang Cpp && eqb left Identifier) y)
+      ∙ ap (λ (ok : Bool). inside_if ok arguments (type_state true started reference)) (and_parts (eqb s TemplateArguments) (eqb lang Cpp && eqb left Identifier) y).1
 
 module _ (lang s : ℕ) (operand access : Bool) (depth : ℕ) where
   abbrev expression_table : Move ExpressionState
@@ -202,9 +207,9 @@ module _ (lang s : ℕ) (operand access : Bool) (depth : ℕ) where
                 expression_8 y = rw (ne_eqb s Identifier n1, n2, ne_eqb s Scope n3, n4, n5, n6, n7, eq-eqb s Question y, add-one depth)
 
                 module _ (n8 : s ≡ Question → ⊥) where
-                  pub expression_9 : s ≡ Colon → on_if (not (eqb lang Fortran) && not operand && not (eqb depth 0)) (expression_state true access (pred depth)) ≡ expression_table
+                  pub expression_9 : s ≡ Colon → on_if (not (eqb lang Fortran) && not operand && not (eqb depth 0)) (expression_state true access (depth - 1)) ≡ expression_table
                   unfolding expression_node
-                  expression_9 y = rw (ne_eqb s Identifier n1, n2, ne_eqb s Scope n3, n4, n5, n6, n7, ne_eqb s Question n8, eq-eqb s Colon y)
+                  expression_9 y = rw (← one_less depth, ne_eqb s Identifier n1, n2, ne_eqb s Scope n3, n4, n5, n6, n7, ne_eqb s Question n8, eq-eqb s Colon y)
 
                   module _ (n9 : s ≡ Colon → ⊥) where
                     pub expression_10 : is_binary_or_assignment_operator lang s ≡ true → on_if (not operand) (expression_state true false depth) ≡ expression_table

@@ -1,16 +1,15 @@
 -- A walk over the nodes of a level under an allowance, whatever is done at each node. Assumes nothing.
-use Rattle.std.specs.Prelude.{ℕ, suc, ◌+◌, ◌*◌, ◌≤◌, ◌<◌, ◌≡◌, Bool, List, length}
+use Rattle.std.specs.Prelude.{ℕ, suc, ◌+◌, ◌*◌, ◌≤◌, ◌<◌, ◌≡◌, Bool, List, length, Ok, Err, IsErrAnd}
 use Rattle.std.proofs.Common.{sym, ap, ◌∙◌, subst, arith, add-one}
 use Rattle.reader.specs.Nodes.{Nodes, count, node_width, numbers_bound}
 use Rattle.type_nodes.specs.Nodes.{next}
 use Rattle.type_nodes.specs.Stands.{Stands, NodesStand, WordedNodes, Of, below}
 use Rattle.type_nodes.specs.Laws.Siblings.{first, unique}
 use Rattle.structure.specs.Said.{Said, both, plain}
-use Rattle.structure.specs.Allowance.{verdict_within}
+use Rattle.structure.specs.Allowance.{Verdict, verdict_within}
 use Rattle.structure.specs.VerdictSays.{VerdictSays}
-use Rattle.structure.specs.Laws.Limits.{on_holds, Stops, limited_both}
-use Rattle.structure.specs.declared.moves.Verdict.{Verdict}
-use Rattle.structure.specs.declared.moves.Verdict.TheVariants.{Holds}
+use Rattle.structure.specs.Laws.Limits.{on_holds, handed_on, limited_both}
+use Rattle.structure.specs.declared.moves.Fault.{Fault}
 
 -- The check `whole` of all the nodes, with the steps allowed, comes to what `todo` of the nodes from `at` on does with the steps that are left.
 pub record Walk (tree kinds : List ℕ) (whole : Nodes → Said) (from to allowed left : ℕ) (todo : Nodes → Said) (at : ℕ) : Type 0 where
@@ -43,9 +42,6 @@ module _ {tree kinds : List ℕ} {whole : Nodes → Said} {from to allowed : ℕ
   }
 
   module _ {left : ℕ} {todo : Nodes → Said} {at : ℕ} (lp : Walk tree kinds whole from to allowed left todo at) where
-    pub walk_formed : NodesStand tree kinds at to
-    walk_formed = record { nodes = lp.rest; stands = lp.stands; room = lp.room; few = lp.few }
-
     -- A range within what is left of the level.
     pub walk_element : {words : List ℕ} {a e : ℕ} {element : Nodes} → Stands tree kinds a e element → e ≤ to → length words ≡ length kinds → WordedNodes tree kinds words a e
     walk_element s h k = record {
@@ -73,10 +69,11 @@ module _ {tree kinds : List ℕ} {whole : Nodes → Said} {from to allowed : ℕ
       gone : verdict_within left (todo lp.rest) ≡ on_holds v (λ m. verdict_within m (todo' t.after))
       gone = ap (verdict_within left) t.is ∙ limited_both left _ _ ∙ rw (← sv.says t.element t.element_stands)
 
-      pub walk_stops : Stops v → VerdictSays tree kinds from to allowed whole v
-      walk_stops q = record { says = λ x u. sym (lp.is x u ∙ gone ∙ q.stops _) }
+      pub walk_stops : {r : Verdict} {fault : Fault} → v ≡ Err fault → IsErrAnd r (λ y. y ≡ fault) → VerdictSays tree kinds from to allowed whole r
+      unfolding on_holds
+      walk_stops q o = record { says = λ x u. handed_on q o ∙ sym (lp.is x u ∙ gone ∙ rw q) }
 
-      pub walk_holds : {m : ℕ} → v ≡ Holds m → Walk tree kinds whole from to allowed m todo' at'
+      pub walk_holds : {m : ℕ} → v ≡ Ok m → Walk tree kinds whole from to allowed m todo' at'
       unfolding on_holds
       walk_holds q = record {
         rest = t.after;

@@ -10,7 +10,7 @@ pub returns-then-buffer-output-clause-handed : goal.returns-then-buffer-output-c
 returns-then-buffer-output-clause-handed c = (not_handed _ _ (omega arith)).1
 
 pub returns-clause-told : goal.returns-clause-told
-returns-clause-told c = (is_handed _ _ _ _ (omega arith) c.put_bytes.ensures).0
+returns-clause-told c = (is_handed _ _ (omega arith) c.copy_from_slice.ensures.after).0
 
 pub returns-clause-handed : goal.returns-clause-handed
-returns-clause-handed c = (is_handed _ _ _ _ (omega arith) c.put_bytes.ensures).1
+returns-clause-handed c = (is_handed _ _ (omega arith) c.copy_from_slice.ensures.after).1

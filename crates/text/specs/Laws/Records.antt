@@ -1,18 +1,20 @@
 -- Record numbers as bytes, which are read back as the number, and outputs handed to a caller's buffer.
 -- Assumes nothing.
 use Rattle.std.specs.Prelude.{ℕ, zero, suc, ◌-◌, ◌/◌, ◌%◌, ◌^◌, ◌≤◌, ◌<◌, ◌≡◌, refl, true, false, List, [], ◌∷◌, ◌++◌, length, take, drop, get_or}
-use Rattle.std.proofs.Common.{sym, ap, ◌∙◌, append_assoc, arith, add-zero, zero-add, pow-suc, div-lt_iff_lt-mul, add-one, sub-one, le-leb, length-take-le, drop-drop, drop_at, get_or-drop}
+use Rattle.std.proofs.Common.{sym, ap, ◌∙◌, append_assoc, arith, add-zero, pow-suc, div-lt_iff_lt-mul, add-one, sub-one, le-leb, length-take-le, drop-drop, drop_at, get_or-drop}
 use Rattle.std.proofs.Math.Nat.{mod-add-div}
 use Rattle.std.proofs.lemmas.Bool.{lt-leb}
 use Rattle.rows.specs.Records.{byte_values, little_endian}
+use Rattle.text.specs.declared.Text.{Text}
 use Rattle.text.specs.Text.{Appended, little_endian_bytes, fits, handed}
-use Rattle.text.specs.Laws.Appending.{appended_none, appended_whole}
+use Rattle.text.specs.Puts.{Puts}
+use Rattle.text.specs.Laws.Appending.{appended_whole, puts_none}
 
 -- ---- record numbers
 
-pub no_bytes : {xs : List ℕ} {at : ℕ} (width number : ℕ) → width ≡ 0 → Appended xs at (little_endian_bytes width number) at xs
+pub no_bytes : {t : Text} (width number : ℕ) → width ≡ 0 → Puts t (little_endian_bytes width number) t
 unfolding little_endian_bytes
-no_bytes {xs} {at} width number none = rw none (appended_none xs at)
+no_bytes {t} width number none = rw none (puts_none t)
 
 -- The lowest byte, and then the others.
 pub byte_first : (width number : ℕ) → (width ≡ 0 → ⊥) → (number % byte_values ∷ []) ++ little_endian_bytes (width - 1) (number / byte_values) ≡ little_endian_bytes width number
@@ -57,6 +59,6 @@ pub not_handed : (output buffer : List ℕ) → length buffer < length output �
 unfolding fits handed
 not_handed output buffer short = rw (lt-leb (length output) (length buffer) short) (refl, refl)
 
-pub is_handed : (output buffer after : List ℕ) (r : ℕ) → length output ≤ length buffer → Appended buffer 0 output r after → (true ≡ fits output buffer) × (after ≡ handed output buffer)
+pub is_handed : (output buffer : List ℕ) {front : List ℕ} → length output ≤ length buffer → front ≡ output → (true ≡ fits output buffer) × (front ++ drop (length output) buffer ≡ handed output buffer)
 unfolding fits handed
-is_handed output buffer after r room put = rw (le-leb (length output) (length buffer) room) (refl, appended_whole put ∙ rw (put.counts, zero-add (length output)) refl)
+is_handed output buffer room e = rw (e, le-leb (length output) (length buffer) room) (refl, refl)

@@ -1,4 +1,5 @@
 -- A list beside the reading of one type name: that gives 13 exactly if the row has a cut, and else the two answer alike. Assumes nothing.
+use Rattle.rows.specs.Answer.{refused_with}
 use Rattle.std.specs.Prelude.{ℕ, suc, ◌+◌, ◌≤◌, ◌<◌, ◌↔◌, List, [], ◌∷◌, drop}
 use Rattle.std.proofs.Math.Path.{◌≡◌, refl, ap, subst}
 use Rattle.std.proofs.Common.{sym, ◌∙◌, append-nil}
@@ -11,7 +12,6 @@ use Rattle.rows.specs.Records.{RowToken, kinds_of, words_of}
 use Rattle.rows.specs.Refusals.{refusal_of}
 use Rattle.rows.specs.declared.answer.TypeNameError.{TypeNameError}
 use Rattle.rows.specs.declared.answer.TypeNameError.TheVariants.{TopLevelComma}
-use Rattle.rows.specs.declared.answer.Answer.TheVariants as Answer
 use Rattle.rows.specs.declared.head.Head.{Head}
 use Rattle.reader.specs.Nodes.{count, records}
 use Rattle.type_name.specs.FileRow.{HeadRow, passes, on_pass, file_row}
@@ -56,7 +56,7 @@ module _ (file : List ℕ) (room : ℕ) (r : HeadRow) (is_row : file_row format 
   unfolding list_outcome on_pass
   list_is = rw is_row refl
 
-  not_13 : length ts ≤ n → (o : RowAnswer) → row_answer r ≡ o → (e : TypeNameError) (m : ℕ) → answer_in (passes o) ≡ Answer.Refused e m → (refusal_of e).number ≡ cut_number → ⊥
+  not_13 : length ts ≤ n → (o : RowAnswer) → row_answer r ≡ o → (e : TypeNameError) (m : ℕ) → answer_in (passes o) ≡ refused_with e m → (refusal_of e).number ≡ cut_number → ⊥
   unfolding answer_in row_answer
   not_13 p (Answers.accepted x k) q e m t c = let clash : ◌≡◌ {A = ℕ} 0 1 = ap is_refused t in omega (arith, clash)
   not_13 p (Answers.refused f k) q e m t c =

@@ -1,4 +1,5 @@
 -- From what the parts come to to the answer of a file and its final buffer. Assumes nothing.
+use Rattle.type_list.specs.ListAnswer.{list_refuses, ListAnswer, no_part}
 use Rattle.std.specs.Prelude.{ℕ, ◌*◌, ◌≡◌, List, [], ◌∷◌, take}
 use Rattle.std.proofs.Math.Path.{refl, ap}
 use Rattle.std.proofs.Common.{sym, ◌∙◌, arith, length-append}
@@ -12,10 +13,8 @@ use Rattle.reader.specs.Laws.NodeNumbers.{three_each}
 use Rattle.type_name.specs.FileRow.{passes, untouched, on_pass, file_row}
 use Rattle.type_name.specs.Answers.{filled}
 use Rattle.type_name.specs.EntrySays.{TreeFits, settled, FileRowTaken}
-use Rattle.type_list.specs.ListAnswers.{PartsAnswer, accepted, refused, row_parts_answer, list_outcome, list_answer_in, list_answer, list_buffer_in, list_buffer, nodes_in_all, records_in_all, no_part}
+use Rattle.type_list.specs.ListAnswers.{PartsAnswer, accepted, refused, row_parts_answer, list_outcome, list_answer_in, list_answer, list_buffer_in, list_buffer, nodes_in_all, records_in_all}
 use Rattle.type_list.specs.ListSays.{PartsInFront, PartsRead, answer_to, TokensOf, as_one, ListTold}
-use Rattle.type_list.specs.declared.answer.ListAnswer.{ListAnswer}
-use Rattle.type_list.specs.declared.answer.ListAnswer.TheVariants.{Refused}
 
 -- Three numbers a node.
 pub three_in_all : (xs : List Nodes) → length (records_in_all xs) ≡ node_width * nodes_in_all xs
@@ -49,7 +48,7 @@ module _ {o : PartsAnswer} {a : ListAnswer} {tree : List ℕ} (r : PartsRead o a
 
 module _ (file before : List ℕ) where
   pub untouched_answer : {e : TypeNameError} → file_row format file (length before) ≡ untouched e
-      → (Refused e 0 no_part ≡ list_answer file (length before)) × (before ≡ list_buffer file before)
+      → (list_refuses e 0 no_part ≡ list_answer file (length before)) × (before ≡ list_buffer file before)
   unfolding list_answer list_answer_in list_buffer list_buffer_in list_outcome on_pass
   untouched_answer q = (rw q refl, rw q refl)
 

@@ -1,5 +1,6 @@
 -- The loop over a row's parts: the trees taken so far, and what is left. Assumes nothing.
-use Rattle.std.specs.Prelude.{ℕ, suc, ◌+◌, ◌*◌, ◌-◌, ◌≤◌, ◌<◌, ◌≡◌, drop}
+use Rattle.type_list.specs.ListAnswer.{list_accepts, list_refuses}
+use Rattle.std.specs.Prelude.{ℕ, suc, ◌+◌, ◌*◌, ◌-◌, ◌≤◌, ◌<◌, ◌≡◌, drop, Ok}
 use Rattle.std.proofs.Math.Path.{refl, sym, ap, subst}
 use Rattle.std.proofs.Common.{◌∙◌, lt_of_not-le, lt-ltb, le-ltb, length-drop, take_all, drop-drop}
 use mathlib.Core.List.{List, [], ◌∷◌, ◌++◌, append_assoc, append-nil}
@@ -13,12 +14,10 @@ use Rattle.reader.specs.Nodes.{Nodes, count, node_width, records}
 use Rattle.type_name.specs.EntrySays.{RowReady}
 use Rattle.type_list.specs.Parts.{part_length, parts}
 use Rattle.type_list.specs.ListAnswers.{PartsAnswer, accepted, refused, behind, on_part, parts_answer, list_answer_in, nodes_in_all, records_in_all}
-use Rattle.type_list.specs.ListSays.{next_length, next_answer, PartReady, TakesPart, parts_from, behind_all, PartsRead, answer_to, TokensOf, ReadsParts}
+use Rattle.type_list.specs.ListSays.{next_length, next_answer, PartReady, TakesPart, parts_from, behind_all, PartsRead, answer_to, TokensOf, ReadsParts, part_refuses}
 use Rattle.type_list.specs.Laws.Slices.{kinds_take, kinds_drop, kinds_length, words_take, words_drop}
 use Rattle.type_list.specs.Laws.Cuts.{parts_cut, parts_whole}
-use Rattle.type_list.specs.declared.answer.ListAnswer.TheVariants as List
 use Rattle.type_list.specs.declared.parts.Taken.{Taken}
-use Rattle.type_list.specs.declared.parts.PartStep.{PartStep}
 
 -- ---- the next part and those behind it
 
@@ -148,8 +147,8 @@ module _ (h : Head) (kinds words : List ℕ) where
           ap (λ (ps : List (List RowToken)). parts_answer h.language h.standard h.flag ps t.left) (parts_from_next h.language ts t.from inside_row)
           ∙ rw (kinds_take size behind_them, words_take size behind_them, kinds_left, words_left) refl
 
-    pub parts_refused : t.from ≤ length kinds → {e : TypeNameError} {left : ℕ} {tree' : List ℕ} → TakesPart h kinds words tree t (PartStep.Refused e left) tree'
-        → ReadsParts h kinds words (List.Refused e (h.allowance - left) t.parts) tree'
+    pub parts_refused : t.from ≤ length kinds → {e : TypeNameError} {left : ℕ} {tree' : List ℕ} → TakesPart h kinds words tree t (part_refuses e left) tree'
+        → ReadsParts h kinds words (list_refuses e (h.allowance - left) t.parts) tree'
     unfolding on_part list_answer_in
     parts_refused inside {e} {left} {tree'} s =
         let (m, is, l, fits) = s.says in
@@ -161,10 +160,10 @@ module _ (h : Head) (kinds words : List ℕ) where
               let next : rest_answer h ts t.from t.left ≡ refused e m 0 = rw is at (next_comes inside ts of) in
               let comes : answer_to h ts ≡ refused e (h.allowance - left) t.parts =
               k.comes ∙ ap (behind_all k.trees (h.allowance - t.left)) next ∙ rw (← steps, ← part) refl in
-              subst (λ (o : PartsAnswer). PartsRead o (List.Refused e (h.allowance - left) t.parts) tree') (sym comes) (record { answered = refl; in_front = tt });
+              subst (λ (o : PartsAnswer). PartsRead o (list_refuses e (h.allowance - left) t.parts) tree') (sym comes) (record { answered = refl; in_front = tt });
         }
 
-    pub parts_again : t.from ≤ length kinds → {next : Taken} {tree' : List ℕ} → TakesPart h kinds words tree t (PartStep.On next) tree' → PartsLoop h kinds words tree' next
+    pub parts_again : t.from ≤ length kinds → {next : Taken} {tree' : List ℕ} → TakesPart h kinds words tree t (Ok next) tree' → PartsLoop h kinds words tree' next
     unfolding on_part
     parts_again inside {next} {tree'} s =
         let a = s.says in
@@ -186,7 +185,7 @@ module _ (h : Head) (kinds words : List ℕ) where
               };
         }
 
-    pub parts_end : length kinds < t.from → ReadsParts h kinds words (List.Accepted t.parts t.nodes (h.allowance - t.left)) tree
+    pub parts_end : length kinds < t.from → ReadsParts h kinds words (list_accepts t.parts t.nodes (h.allowance - t.left)) tree
     unfolding list_answer_in parts_answer
     parts_end past =
         record {
@@ -196,6 +195,6 @@ module _ (h : Head) (kinds words : List ℕ) where
               let steps : h.allowance - t.left + 0 ≡ h.allowance - t.left = omega arith in
               let comes : answer_to h ts ≡ accepted k.trees (h.allowance - t.left) =
               k.comes ∙ rw (parts_from_end h.language ts t.from over, append-nil k.trees, steps) refl in
-              subst (λ (o : PartsAnswer). PartsRead o (List.Accepted t.parts t.nodes (h.allowance - t.left)) tree) (sym comes)
+              subst (λ (o : PartsAnswer). PartsRead o (list_accepts t.parts t.nodes (h.allowance - t.left)) tree) (sym comes)
               (record { answered = rw (k.is_parts, k.is_nodes) refl; in_front = ap (λ (j : ℕ). take (node_width * j) tree) (sym k.is_nodes) ∙ k.held });
         }

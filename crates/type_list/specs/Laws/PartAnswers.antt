@@ -1,5 +1,6 @@
 -- From what the code answers to a part to the definition's answer to it. Assumes nothing.
-use Rattle.std.specs.Prelude.{ℕ, ◌+◌, ◌*◌, ◌-◌, ◌≤◌, List, ◌++◌, length, drop, leb, eqb}
+use Rattle.rows.specs.Answer.{accepted_with, refused_with, Answer}
+use Rattle.std.specs.Prelude.{ℕ, ◌+◌, ◌*◌, ◌-◌, ◌≤◌, List, ◌++◌, length, drop, leb, eqb, Ok, Err}
 use Rattle.std.proofs.Math.Path.{◌≡◌, refl, sym, ap}
 use Rattle.std.proofs.Common.{◌∙◌, subst, length-drop, take_all, length-take-le}
 use native.Mathlib.Omega.{arith}
@@ -8,9 +9,8 @@ use Rattle.std.proofs.Math.ListN.{take}
 use Rattle.std.proofs.Math.Dec.{leb→le}
 use Rattle.rows.specs.Languages.{Cpp}
 use Rattle.rows.specs.Laws.Tests.{by_if}
-use Rattle.rows.specs.declared.answer.Answer.{Answer}
 use Rattle.rows.specs.declared.answer.TypeNameError.{TypeNameError}
-use Rattle.rows.specs.declared.answer.TypeNameError.TheVariants.{AllowancePassed}
+use Rattle.rows.specs.declared.answer.TypeNameError.TheVariants.{AllowancePassed, Empty}
 use Rattle.rows.specs.declared.head.Head.{Head}
 use Rattle.prescan.specs.Prescan.{Scanned, passed, prescan}
 use Rattle.prescan.specs.Prescan
@@ -74,7 +74,7 @@ module _ (language standard flag : ℕ) (kinds words : List ℕ) (allowance : �
 -- ---- what the code answers, by its cases
 
 module _ {tree : List ℕ} where
-  pub told_accepted : (o : RowAnswer) {n m : ℕ} → ReadsRow o (Answer.Accepted n m) tree → (x : Nodes) × (o ≡ accepted x m) × (count x ≡ n) × (take (node_width * n) tree ≡ records x)
+  pub told_accepted : (o : RowAnswer) {n m : ℕ} → ReadsRow o (accepted_with n m) tree → (x : Nodes) × (o ≡ accepted x m) × (count x ≡ n) × (take (node_width * n) tree ≡ records x)
   unfolding answer_in
   told_accepted (accepted x k) r =
       let nodes : count x ≡ _ = sym (ap nodes_in r.answered) in
@@ -82,13 +82,17 @@ module _ {tree : List ℕ} where
       (x, ap (accepted x) steps, nodes, ap (λ (j : ℕ). take (node_width * j) tree) (sym nodes) ∙ r.in_front)
   told_accepted (refused e k) r = let clash : ◌≡◌ {A = ℕ} 0 1 = ap is_refused r.answered in absurd (omega (arith, clash))
 
-  pub told_refused : (o : RowAnswer) {e : TypeNameError} {m : ℕ} → ReadsRow o (Answer.Refused e m) tree → o ≡ refused e m
+  pub told_refused : (o : RowAnswer) {e : TypeNameError} {m : ℕ} → ReadsRow o (refused_with e m) tree → o ≡ refused e m
   unfolding answer_in
   told_refused (accepted x k) r = let clash : ◌≡◌ {A = ℕ} 1 0 = ap is_refused r.answered in absurd (omega (arith, clash))
   told_refused (refused e k) r = same r.answered
     where
-      same : {e' : TypeNameError} {k' : ℕ} → Answer.Refused e' k' ≡ Answer.Refused e k → refused e k ≡ refused e' k'
-      same q = cc
+      error_in : Answer → TypeNameError
+      error_in (Ok a) = Empty
+      error_in (Err r) = r.error
+
+      same : {e' : TypeNameError} {k' : ℕ} → refused_with e' k' ≡ refused_with e k → refused e k ≡ refused e' k'
+      same q = let error = ap error_in q in let steps = ap steps_in q in cc
 
   pub told_steps : (o : RowAnswer) {a : Answer} → ReadsRow o a tree → steps_in a ≡ row_steps o
   unfolding answer_in row_steps
@@ -156,7 +160,7 @@ module _ (h : Head) (kinds words tree : List ℕ) (t : Taken) (ready : PartReady
           steps_allowed h.language h.standard h.flag (take n (drop t.from kinds)) (take n (drop t.from words)) t.left,
         )
 
-    module _ {n m : ℕ} (is : r.answer ≡ Answer.Accepted n m) where
+    module _ {n m : ℕ} (is : r.answer ≡ accepted_with n m) where
       abbrev found : (x : Nodes) × (next_answer h kinds words tree t ≡ accepted x m) × (count x ≡ n) × (take (node_width * n) tail ≡ records x)
       found = told_accepted (next_answer h kinds words tree t) (subst (λ (a : Answer). ReadsRow (next_answer h kinds words tree t) a tail) is next_told)
 

@@ -1,8 +1,9 @@
 -- The promises follow from the answer and the buffer being the definition's. Assumes nothing.
+use Rattle.type_list.specs.ListAnswer.{list_accepts, list_refuses, ListAnswer}
 use Prim.Native.Nat.{ℕ, zero, suc, ◌+◌, ◌*◌, ◌-◌, ◌≤◌, ◌<◌}
 use Rattle.std.proofs.Math.Path.{◌≡◌, refl, sym, ap, subst}
 use Rattle.std.proofs.Common.{◌∙◌, inl, inr, ⊎_elim, lt_of_not-le, get_or-append-add}
-use Rattle.std.specs.Prelude.{◌⊎◌, ◌↔◌, take, drop, leb}
+use Rattle.std.specs.Prelude.{◌⊎◌, ◌↔◌, take, drop, leb, Err, Ok}
 use mathlib.Core.List.{List, [], ◌∷◌, ◌++◌}
 use native.Mathlib.Omega.{arith}
 use Rattle.std.proofs.Math.Decide.{dec_le}
@@ -38,8 +39,6 @@ use Rattle.type_list.specs.Laws.Commas.{NoCut, scanned_no_cut}
 use Rattle.type_list.specs.Laws.PartAnswers.{prescan_answers, steps_allowed}
 use Rattle.type_list.specs.Laws.Starts.{Starts, read_starts, starts_there}
 use Rattle.type_list.specs.Laws.ListEntry.{three_in_all}
-use Rattle.type_list.specs.declared.answer.ListAnswer.{ListAnswer}
-use Rattle.type_list.specs.declared.answer.ListAnswer.TheVariants.{Accepted, Refused}
 
 -- Which of the two an answer is, as a number.
 abbrev is_refused : PartsAnswer → ℕ
@@ -344,24 +343,24 @@ begins_exactly (x ∷ xs) s n p =
 -- ---- a file
 
 abbrev code_in : ListAnswer → ℕ
-code_in (Accepted parts nodes steps) = 0
-code_in (Refused e steps part) = 1
+code_in (Ok a) = 0
+code_in (Err r) = 1
 
 abbrev parts_told : ListAnswer → ℕ
-parts_told (Accepted parts nodes steps) = parts
-parts_told (Refused e steps part) = part
+parts_told (Ok a) = a.parts
+parts_told (Err r) = r.part
 
 abbrev nodes_told : ListAnswer → ℕ
-nodes_told (Accepted parts nodes steps) = nodes
-nodes_told (Refused e steps part) = 0
+nodes_told (Ok a) = a.nodes
+nodes_told (Err r) = 0
 
 abbrev steps_told : ListAnswer → ℕ
-steps_told (Accepted parts nodes steps) = steps
-steps_told (Refused e steps part) = steps
+steps_told (Ok a) = a.steps
+steps_told (Err r) = r.steps
 
 abbrev error_told : TypeNameError → ListAnswer → TypeNameError
-error_told f (Accepted parts nodes steps) = f
-error_told f (Refused e steps part) = e
+error_told f (Ok a) = f
+error_told f (Err r) = r.error
 
 length-map : (ps : List PartTree) → length (trees_of ps) ≡ length ps
 length-map [] = refl
@@ -445,8 +444,8 @@ module _ (file before : List ℕ) where
   -- By what comes of the file's row, and of its parts.
   abbrev Kept : Outcome PartsAnswer → Type 0
   Kept o =
-      ((parts_told nodes steps : ℕ) → list_answer_in o ≡ Accepted parts_told nodes steps → AcceptedList file before (list_buffer_in before o) parts_told nodes steps)
-      × ((e : TypeNameError) (steps part : ℕ) → list_answer_in o ≡ Refused e steps part → RefusedList file before (list_buffer_in before o) e steps part)
+      ((parts_told nodes steps : ℕ) → list_answer_in o ≡ list_accepts parts_told nodes steps → AcceptedList file before (list_buffer_in before o) parts_told nodes steps)
+      × ((e : TypeNameError) (steps part : ℕ) → list_answer_in o ≡ list_refuses e steps part → RefusedList file before (list_buffer_in before o) e steps part)
 
   parts_kept : (r : HeadRow) → file_row format file room ≡ passes r → (o : PartsAnswer) → row_parts_answer r ≡ o → Kept (passes o)
   unfolding list_answer_in list_buffer_in

@@ -1,6 +1,7 @@
 -- What an accepted answer comes of, place by place, and that it comes back under a later standard and any allowance not below its steps.
 -- Assumes nothing.
-use Rattle.std.specs.Prelude.{ℕ, ◌+◌, ◌≤◌, ◌≡◌, Bool, true, false, List, leb, eqb, if◌then◌else◌}
+use Rattle.rows.specs.declared.answer.Feature.{Feature}
+use Rattle.std.specs.Prelude.{ℕ, ◌+◌, ◌≤◌, ◌≡◌, Bool, true, false, List, leb, eqb, if◌then◌else◌, None, Ok, Option, Some}
 use Rattle.std.proofs.Math.Path.{refl}
 use Rattle.std.proofs.Common.{subst}
 use borrow.Author.Tests.{le-leb}
@@ -10,7 +11,6 @@ use Rattle.rows.specs.Records.{RowToken, row, head, records_from, kinds_of, word
 use Rattle.rows.specs.Laws.Tests.{by_if}
 use Rattle.rows.specs.declared.answer.TypeNameError.TheVariants.{UnexpectedTokenAfterTypeName}
 use Rattle.rows.specs.declared.head.Head.{Head}
-use Rattle.rows.specs.declared.head.FileHead.TheVariants as FileHead
 use Rattle.prescan.specs.Prescan.{Scan, Scanned, passed, prescan}
 use Rattle.prescan.specs.Prescan
 use Rattle.reader.specs.Nodes.{Nodes}
@@ -18,8 +18,6 @@ use Rattle.reader.specs.Reading.{Got, got, bad, reading}
 use Rattle.structure.specs.Said.{Said, holds, fails}
 use Rattle.profile.specs.Profile.{missing_feature}
 use Rattle.profile.specs.Laws.Monotone.{nothing_missing_later}
-use Rattle.profile.specs.declared.profile.Lack.{Lack}
-use Rattle.profile.specs.declared.profile.Lack.TheVariants.{Nothing, Lacks}
 use Rattle.type_name.specs.FileRow.{HeadRow, Outcome, untouched, passes, on_pass, file_row, entry_outcome}
 use Rattle.type_name.specs.Answers.{RowAnswer, accepted, refused, on_tree, whole_row, tree_of, after_prescan, row_tree, structure_of, by_structure, by_profile, tree_checked, unlimited, row_steps, answer_within, answer_of, row_answer, outcome}
 use Rattle.type_name.specs.Laws.FileRow.{Has, Comes, file_comes}
@@ -71,7 +69,7 @@ pub record CheckedAs (o : RowAnswer) (language standard flag : ℕ) (kinds words
   pub is_read : o ≡ accepted x reading_steps
   pub structure_steps : ℕ
   pub structured : structure_of language flag kinds words x ≡ holds structure_steps
-  pub has_all : missing_feature language standard kinds words ≡ Nothing
+  pub has_all : missing_feature language standard kinds words ≡ None
   pub all_steps : reading_steps + structure_steps ≡ steps
 
 -- The same of the reading of document 01.
@@ -89,11 +87,11 @@ module _ (o : RowAnswer) (language standard flag : ℕ) (kinds words : List ℕ)
   CheckedComes (refused e m) = Unit {0}
 
   module _ (x : Nodes) (m : ℕ) (is_read : o ≡ accepted x m) where
-    profile_comes : (n : ℕ) → structure_of language flag kinds words x ≡ holds n → (l : Lack) → missing_feature language standard kinds words ≡ l
+    profile_comes : (n : ℕ) → structure_of language flag kinds words x ≡ holds n → (l : Option Feature) → missing_feature language standard kinds words ≡ l
         → CheckedComes (by_profile x (m + n) l)
     unfolding by_profile
-    profile_comes n q Nothing e = record { reading_steps = m; is_read = is_read; structure_steps = n; structured = q; has_all = e; all_steps = refl }
-    profile_comes n q (Lacks f) e = tt
+    profile_comes n q None e = record { reading_steps = m; is_read = is_read; structure_steps = n; structured = q; has_all = e; all_steps = refl }
+    profile_comes n q (Some f) e = tt
 
     structure_comes : (said : Said) → structure_of language flag kinds words x ≡ said
         → CheckedComes (on_tree (by_structure x m said) λ y k. by_profile y k (missing_feature language standard kinds words))
@@ -140,7 +138,7 @@ row_stable language standard standard' flag kinds words allowance x steps r late
 -- The file was accepted with this row and this tree after these steps, by an entry that answers so to its head and row.
 pub record AcceptedBy (answers : HeadRow → RowAnswer) (file : List ℕ) (ts : List RowToken) (x : Nodes) (steps : ℕ) : Type 0 where
   pub head_of : Head
-  pub formed : head format file ≡ FileHead.Formed head_of
+  pub formed : head format file ≡ Ok head_of
   pub row_is : records_from format file most_tokens head_length ≡ row ts
   pub answers_so : answers (record { the_head = head_of; tokens = ts }) ≡ accepted x steps
 
@@ -166,7 +164,7 @@ module _ (answers : HeadRow → RowAnswer) (file : List ℕ) (room : ℕ) where
 -- The same by the entry of document 01.
 pub record FileAccepted (file : List ℕ) (ts : List RowToken) (x : Nodes) (steps : ℕ) : Type 0 where
   pub head_of : Head
-  pub formed : head format file ≡ FileHead.Formed head_of
+  pub formed : head format file ≡ Ok head_of
   pub row_is : records_from format file most_tokens head_length ≡ row ts
   pub row_accepted : RowAccepted head_of.language head_of.standard head_of.flag (kinds_of ts) (words_of ts) x steps
 

@@ -1,5 +1,7 @@
 -- From what the layers below say to the answer of a row. Assumes nothing.
-use Rattle.std.specs.Prelude.{ℕ, ◌+◌, ◌-◌, ◌*◌, ◌≤◌, ◌<◌, ◌≡◌, ◌⊎◌, ◌≢◌, Bool, List, length, leb, eqb, if◌then◌else◌}
+use Rattle.rows.specs.Answer.{accepted_with, refused_with, Answer}
+use Rattle.rows.specs.declared.answer.Feature.{Feature}
+use Rattle.std.specs.Prelude.{ℕ, ◌+◌, ◌-◌, ◌*◌, ◌≤◌, ◌<◌, ◌≡◌, ◌⊎◌, ◌≢◌, Bool, List, length, leb, eqb, if◌then◌else◌, Err, None, Ok, Option, Result, Some}
 use Rattle.std.proofs.Math.Path.{refl, ap, subst}
 use Rattle.std.proofs.Common.{sym, ◌∙◌, lt_of_not-le, le-leb, eq-eqb, ne_eqb}
 use Rattle.std.proofs.Math.Logic.{⊎_elim}
@@ -11,21 +13,17 @@ use Rattle.std.proofs.Math.ListN.{take}
 use Rattle.rows.specs.Languages.{Cpp}
 use Rattle.rows.specs.Format.{asks_structure, most_tokens}
 use Rattle.rows.specs.Laws.Tests.{and_false}
-use Rattle.rows.specs.declared.answer.Answer.{Answer}
-use Rattle.rows.specs.declared.answer.Answer.TheVariants.{Accepted, Refused}
 use Rattle.rows.specs.declared.answer.TypeNameError.{TypeNameError}
 use Rattle.rows.specs.declared.answer.TypeNameError.TheVariants.{UnexpectedTokenAfterTypeName, AllowancePassed, NoTypeName, NotAvailableInProfile}
 use Rattle.rows.specs.declared.head.Head.{Head}
 use Rattle.prescan.specs.Prescan.{Scan, Scanned, passed, prescan}
 use Rattle.prescan.specs.Prescan
 use Rattle.prescan.specs.Prescanned.{Same, PrescanSays}
-use Rattle.prescan.specs.declared.boundary.Prescanned.{Prescanned}
-use Rattle.prescan.specs.declared.boundary.Prescanned.TheVariants as P
 use Rattle.reader.specs.Nodes.{Nodes, count, node_width, records}
 use Rattle.reader.specs.Reading.{Got, got, bad, refusal, reading}
-use Rattle.reader.specs.ReaderSays.{TreeRead, LeftOver, ParseSays, Parses}
-use Rattle.reader.specs.declared.parser.Parsed.{Parsed}
-use Rattle.reader.specs.declared.parser.Parsed.TheVariants as R
+use Rattle.reader.specs.ReaderSays.{TreeRead, LeftOver, ParseSays, Parses, refused_unread}
+use Rattle.reader.specs.declared.parser.Tree.{Tree}
+use Rattle.reader.specs.declared.parser.ParseError.{ParseError}
 use Rattle.reader.specs.Allowance.{steps}
 use Rattle.reader.specs.Derivation.{RowDerived}
 use Rattle.reader.specs.Laws.Derived.{row_derived}
@@ -38,11 +36,9 @@ use Rattle.structure.specs.Allowance as Steps
 use Rattle.structure.specs.VerdictSays as Structure
 use Rattle.structure.specs.Laws.Limits.{limited_after}
 use Rattle.structure.specs.Laws.Trees.{tree_stands}
-use Rattle.structure.specs.declared.moves.Verdict.{Verdict}
-use Rattle.structure.specs.declared.moves.Verdict.TheVariants.{Holds, Fails, Spent}
+use Rattle.structure.specs.Allowance.{Verdict}
+use Rattle.structure.specs.declared.moves.Fault.TheVariants.{Fails, Spent}
 use Rattle.profile.specs.Profile.{missing_feature}
-use Rattle.profile.specs.declared.profile.Lack.{Lack}
-use Rattle.profile.specs.declared.profile.Lack.TheVariants.{Nothing, Lacks}
 use Rattle.type_name.specs.FileRow.{passes}
 use Rattle.type_name.specs.Answers.{RowAnswer, accepted, refused, on_tree, refusal_of_fault, whole_row, tree_of, after_prescan, row_tree, structure_of, by_structure, by_profile, tree_checked, row_steps, answer_within, answer_in}
 use Rattle.type_name.specs.EntrySays.{TreeIn, TreeTold, TreeSays, NodesReady, NodesSay, CheckSays, InFront, ReadsRow, profile_answer, verdict_answer, row_checked}
@@ -66,20 +62,20 @@ limited_over al a p = rw (lt-leb (row_steps a) al p) refl
 -- ---- what the structure check leaves of the allowance
 
 abbrev pub left_in : Verdict → ℕ
-left_in (Holds left) = left
-left_in (Fails left) = left
-left_in Spent = 0
+left_in (Ok left) = left
+left_in (Err (Fails left)) = left
+left_in (Err Spent) = 0
 
 left_below : (al : ℕ) (w : Said) → left_in (Steps.verdict_within al w) ≤ al
 unfolding Steps.verdict_within
 left_below al (holds k) = below_if (leb k al)
   where
-    below_if : (b : Bool) → left_in (if b then Holds (al - k) else Spent) ≤ al
+    below_if : (b : Bool) → left_in (if b then Ok (al - k) else Err Spent) ≤ al
     below_if true = omega arith
     below_if false = omega arith
 left_below al (fails k) = below_if (leb k al)
   where
-    below_if : (b : Bool) → left_in (if b then Fails (al - k) else Spent) ≤ al
+    below_if : (b : Bool) → left_in (if b then Err (Fails (al - k)) else Err Spent) ≤ al
     below_if true = omega arith
     below_if false = omega arith
 
@@ -102,22 +98,22 @@ module _ {kinds tree : List ℕ} {al n m : ℕ} {x : Nodes} (t : TreeIn kinds al
 -- ---- its checks, under the row's profile, flag and allowance
 
 module _ (l s f al : ℕ) (kinds words : List ℕ) where
-  abbrev lack : Lack
+  abbrev lack : Option Feature
   lack = missing_feature l s kinds words
 
   abbrev profiled : RowAnswer → RowAnswer
   profiled a = on_tree a (λ x m. by_profile x m lack)
 
   -- What the profile says,
-  profile_told : (x : Nodes) (n m : ℕ) (k : Lack) → count x ≡ n → m ≤ al → profile_answer n m k ≡ answer_in (passes (answer_within al (by_profile x m k)))
+  profile_told : (x : Nodes) (n m : ℕ) (k : Option Feature) → count x ≡ n → m ≤ al → profile_answer n m k ≡ answer_in (passes (answer_within al (by_profile x m k)))
   unfolding answer_in by_profile row_steps
-  profile_told x n m Nothing c p = rw (limited_fits al (accepted x m) p) (ap (λ (t : ℕ). Accepted t m) (sym c))
-  profile_told x n m (Lacks g) c p = rw (limited_fits al (refused (NotAvailableInProfile g) m) p) refl
+  profile_told x n m None c p = rw (limited_fits al (accepted x m) p) (ap (λ (t : ℕ). accepted_with t m) (sym c))
+  profile_told x n m (Some g) c p = rw (limited_fits al (refused (NotAvailableInProfile g) m) p) refl
 
-  profile_over : (x : Nodes) (m : ℕ) (k : Lack) → al < m → answer_within al (by_profile x m k) ≡ refused AllowancePassed al
+  profile_over : (x : Nodes) (m : ℕ) (k : Option Feature) → al < m → answer_within al (by_profile x m k) ≡ refused AllowancePassed al
   unfolding by_profile row_steps
-  profile_over x m Nothing p = limited_over al (accepted x m) p
-  profile_over x m (Lacks g) p = limited_over al (refused (NotAvailableInProfile g) m) p
+  profile_over x m None p = limited_over al (accepted x m) p
+  profile_over x m (Some g) p = limited_over al (refused (NotAvailableInProfile g) m) p
 
   -- and the structure check before it.
   structure_told : (x : Nodes) (n m : ℕ) (w : Said) → count x ≡ n
@@ -130,7 +126,7 @@ module _ (l s f al : ℕ) (kinds words : List ℕ) where
       ]
   structure_told x n m (fails k) c =
       elim (dec_le (m + k) al) [
-        | yes p ↦ rw (le-leb (m + k) al p, limited_fits al (refused NoTypeName (m + k)) p) (ap (λ (t : ℕ). Refused NoTypeName t) (left_of al (m + k) p))
+        | yes p ↦ rw (le-leb (m + k) al p, limited_fits al (refused NoTypeName (m + k)) p) (ap (λ (t : ℕ). refused_with NoTypeName t) (left_of al (m + k) p))
         | no p ↦ rw (lt-leb (m + k) al (lt_of_not-le p), limited_over al (refused NoTypeName (m + k)) (lt_of_not-le p)) refl
       ]
 
@@ -160,9 +156,9 @@ module _ (l s f al : ℕ) (kinds words : List ℕ) where
   unfolding on_tree by_profile
   in_front_profile (accepted x m) tree w = by lack
     where
-      by : (k : Lack) → InFront (by_profile x m k) tree
-      by Nothing = w
-      by (Lacks g) = tt
+      by : (k : Option Feature) → InFront (by_profile x m k) tree
+      by None = w
+      by (Some g) = tt
   in_front_profile (refused e m) tree w = tt
 
   in_front_structure : (x : Nodes) (m : ℕ) (w : Said) (tree : List ℕ) → InFront (accepted x m) tree → InFront (by_structure x m w) tree
@@ -192,9 +188,9 @@ module _ (l s f al : ℕ) (kinds words : List ℕ) where
   unfolding on_tree row_steps by_profile
   profile_steps (accepted x m) = by lack
     where
-      by : (k : Lack) → m ≤ row_steps (by_profile x m k)
-      by Nothing = omega arith
-      by (Lacks g) = omega arith
+      by : (k : Option Feature) → m ≤ row_steps (by_profile x m k)
+      by None = omega arith
+      by (Some g) = omega arith
   profile_steps (refused e m) = omega arith
 
   -- No check takes a step back.
@@ -210,16 +206,16 @@ module _ (l s f al : ℕ) (kinds words : List ℕ) where
 -- ---- what `check_tree` says, by what the reading came to
 
 refusal_told : (h : Head) (kinds words tree : List ℕ) (o : RowAnswer) {e : TypeNameError} {m : ℕ} → row_checked h kinds words o ≡ refused e m
-    → ReadsRow (row_checked h kinds words o) (Refused e m) tree
+    → ReadsRow (row_checked h kinds words o) (refused_with e m) tree
 unfolding answer_in
-refusal_told h kinds words tree o {e} {m} q = subst (λ (a : RowAnswer). ReadsRow a (Refused e m) tree) (sym q) (record { answered = refl; in_front = tt })
+refusal_told h kinds words tree o {e} {m} q = subst (λ (a : RowAnswer). ReadsRow a (refused_with e m) tree) (sym q) (record { answered = refl; in_front = tt })
 
-module _ (h : Head) (kinds words : List ℕ) {p : Parsed} {tree : List ℕ} where
-  abbrev told : {o : RowAnswer} {q : Parsed} → p ≡ q → TreeSays kinds h.allowance o p tree → TreeTold kinds h.allowance o q tree
-  told {o} e t = subst (λ (c : Parsed). TreeTold kinds h.allowance o c tree) e t.says
+module _ (h : Head) (kinds words : List ℕ) {p : Result Tree ParseError} {tree : List ℕ} where
+  abbrev told : {o : RowAnswer} {q : Result Tree ParseError} → p ≡ q → TreeSays kinds h.allowance o p tree → TreeTold kinds h.allowance o q tree
+  told {o} e t = subst (λ (c : Result Tree ParseError). TreeTold kinds h.allowance o c tree) e t.says
 
-  pub says_tree : {n m : ℕ} {r : Answer} → p ≡ R.Tree n m → NodesSay h kinds words n m tree r → CheckSays h kinds words p tree r
-  says_tree {m = m} {r = r} e c =
+  pub says_tree : {t : Tree} {r : Answer} → p ≡ Ok t → NodesSay h kinds words t.nodes t.steps tree r → CheckSays h kinds words p tree r
+  says_tree {r = r} e c =
       record {
         says = λ o t.
             let (x, is, t') = told e t in
@@ -227,7 +223,7 @@ module _ (h : Head) (kinds words : List ℕ) {p : Parsed} {tree : List ℕ} wher
             (record { answered = c.says x t'; in_front = tree_in_front h.language h.standard h.flag h.allowance kinds words t' });
       }
 
-  pub says_refused : {e : TypeNameError} {m : ℕ} → p ≡ R.Refused e m → CheckSays h kinds words p tree (Refused e m)
+  pub says_refused : {e : TypeNameError} {m : ℕ} → p ≡ Err (ParseError.Refused e m) → CheckSays h kinds words p tree (refused_with e m)
   unfolding row_steps
   says_refused {e} {m} q =
       record {
@@ -237,24 +233,24 @@ module _ (h : Head) (kinds words : List ℕ) {p : Parsed} {tree : List ℕ} wher
             ∙ limited_fits h.allowance (refused e m) fits);
       }
 
-  pub says_over : p ≡ R.AllowancePassed → CheckSays h kinds words p tree (Refused AllowancePassed h.allowance)
+  pub says_over : p ≡ Err ParseError.AllowancePassed → CheckSays h kinds words p tree (refused_with AllowancePassed h.allowance)
   says_over q = record { says = λ o t. refusal_told h kinds words tree o (checked_over h.language h.standard h.flag h.allowance kinds words o (told q t)) }
 
 -- A tree of the reading that the checks are asked of.
-pub nodes_ready : {kinds words tree : List ℕ} {al n m : ℕ} {o : RowAnswer} {p : Parsed} → p ≡ R.Tree n m → length kinds ≤ most_tokens → length words ≡ length kinds
-    → TreeSays kinds al o p tree → NodesReady kinds words al n m tree
+pub nodes_ready : {kinds words tree : List ℕ} {al : ℕ} {o : RowAnswer} {p : Result Tree ParseError} {read : Tree} → p ≡ Ok read → length kinds ≤ most_tokens → length words ≡ length kinds
+    → TreeSays kinds al o p tree → NodesReady kinds words al read.nodes read.steps tree
 nodes_ready {kinds} {words} {tree} {al} {o = o} e k w t =
-    let (x, is, t') = subst (λ (c : Parsed). TreeTold kinds al o c tree) e t.says in
+    let (x, is, t') = subst (λ (c : Result Tree ParseError). TreeTold kinds al o c tree) e t.says in
     record { few = k; worded = w; nodes = x; tree_in = t' }
 
 -- ---- what the code of the layers below answers, by its cases
 
 module _ {d : Scanned} where
-  pub scan_refused : {r : Prescanned} {e : TypeNameError} → r ≡ P.Refused e → PrescanSays r d → d ≡ Prescan.refused e
-  scan_refused q h = subst (λ (c : Prescanned). Same c d) q h.same
+  pub scan_refused : {r : Result (Unit {0}) TypeNameError} {e : TypeNameError} → r ≡ Err e → PrescanSays r d → d ≡ Prescan.refused e
+  scan_refused q h = subst (λ (c : Result (Unit {0}) TypeNameError). Same c d) q h.same
 
-  pub scan_passed : {r : Prescanned} → r ≡ P.Passed → PrescanSays r d → (t : Scan) × (d ≡ passed t)
-  scan_passed q h = subst (λ (c : Prescanned). Same c d) q h.same
+  pub scan_passed : {r : Result (Unit {0}) TypeNameError} → r ≡ Ok tt → PrescanSays r d → (t : Scan) × (d ≡ passed t)
+  scan_passed q h = subst (λ (c : Result (Unit {0}) TypeNameError). Same c d) q h.same
 
 -- ---- the tree of a row, from what its reading came to, however it was read
 
@@ -271,7 +267,7 @@ abbrev pub GotDerived : (kinds : List ℕ) (inner : ℕ → ℕ) → Got → Typ
 GotDerived kinds inner g = (x : Nodes) (a : ℕ) (h : Bool) (m : ℕ) → g ≡ got x a h m → RowDerived kinds inner x
 
 module _ (al : ℕ) (kinds : List ℕ) (g : Got) {inner : ℕ → ℕ} (sound : GotDerived kinds inner g) where
-  tree_told : {n m : ℕ} {tree : List ℕ} → TreeRead kinds al g n m tree → TreeTold kinds al (tree_of kinds g) (R.Tree n m) tree
+  tree_told : {n m : ℕ} {tree : List ℕ} → TreeRead kinds al g n m tree → TreeTold kinds al (tree_of kinds g) (Ok (record { nodes = n; steps = m })) tree
   unfolding tree_of
   tree_told r = (
     r.nodes,
@@ -299,22 +295,22 @@ module _ (al : ℕ) (kinds : List ℕ) (g : Got) {inner : ℕ → ℕ} (sound : 
       by true = p
       by false = p
 
-  says_by : (r : Parsed) (tree : List ℕ) → ParseSays kinds al g r tree → TreeTold kinds al (tree_of kinds g) r tree
-  says_by (R.Tree n m) tree h = tree_told h
-  says_by (R.Refused e m) tree h = (h.0, refused_told h.1)
-  says_by R.AllowancePassed tree h = over_told g h
+  says_by : (r : Result Tree ParseError) (tree : List ℕ) → ParseSays kinds al g r tree → TreeTold kinds al (tree_of kinds g) r tree
+  says_by (Ok t) tree h = tree_told h
+  says_by (Err (ParseError.Refused e m)) tree h = (h.0, refused_told h.1)
+  says_by (Err ParseError.AllowancePassed) tree h = over_told g h
 
-  pub parsed_tree : {r : Parsed} {tree : List ℕ} → Parses kinds al g r tree → TreeSays kinds al (tree_of kinds g) r tree
+  pub parsed_tree : {r : Result Tree ParseError} {tree : List ℕ} → Parses kinds al g r tree → TreeSays kinds al (tree_of kinds g) r tree
   parsed_tree {r} {tree} h = record { says = says_by r tree h.says }
 
 -- ---- the tree of a row behind the prescan
 
 module _ (l al : ℕ) (kinds : List ℕ) (g : Got) where
-  pub tree_refused : {e : TypeNameError} {tree : List ℕ} → prescan l kinds ≡ Prescan.refused e → TreeSays kinds al (after_prescan kinds g (prescan l kinds)) (R.Refused e 0) tree
+  pub tree_refused : {e : TypeNameError} {tree : List ℕ} → prescan l kinds ≡ Prescan.refused e → TreeSays kinds al (after_prescan kinds g (prescan l kinds)) (Err (refused_unread e)) tree
   unfolding after_prescan
   tree_refused q = record { says = (omega arith, ap (after_prescan kinds g) q) }
 
-  pub tree_parsed : {inner : ℕ → ℕ} → GotDerived kinds inner g → (t : Scan) × (prescan l kinds ≡ passed t) → {r : Parsed} {tree : List ℕ} → Parses kinds al g r tree
+  pub tree_parsed : {inner : ℕ → ℕ} → GotDerived kinds inner g → (t : Scan) × (prescan l kinds ≡ passed t) → {r : Result Tree ParseError} {tree : List ℕ} → Parses kinds al g r tree
       → TreeSays kinds al (after_prescan kinds g (prescan l kinds)) r tree
   unfolding after_prescan
   tree_parsed sound t {r} {tree} h = subst (λ (o : RowAnswer). TreeSays kinds al o r tree) (sym (ap (after_prescan kinds g) t.1)) (parsed_tree al kinds g sound h)
@@ -322,10 +318,10 @@ module _ (l al : ℕ) (kinds : List ℕ) (g : Got) where
 -- ---- the tree of a row, by document 01's reading
 
 module _ (l al : ℕ) (kinds : List ℕ) where
-  pub row_tree_refused : {e : TypeNameError} {tree : List ℕ} → prescan l kinds ≡ Prescan.refused e → TreeSays kinds al (row_tree l kinds) (R.Refused e 0) tree
+  pub row_tree_refused : {e : TypeNameError} {tree : List ℕ} → prescan l kinds ≡ Prescan.refused e → TreeSays kinds al (row_tree l kinds) (Err (refused_unread e)) tree
   unfolding row_tree
   row_tree_refused q = tree_refused l al kinds (reading (eqb l Cpp) kinds) q
 
-  pub row_tree_parsed : (t : Scan) × (prescan l kinds ≡ passed t) → {r : Parsed} {tree : List ℕ} → Parses kinds al (reading (eqb l Cpp) kinds) r tree → TreeSays kinds al (row_tree l kinds) r tree
+  pub row_tree_parsed : (t : Scan) × (prescan l kinds ≡ passed t) → {r : Result Tree ParseError} {tree : List ℕ} → Parses kinds al (reading (eqb l Cpp) kinds) r tree → TreeSays kinds al (row_tree l kinds) r tree
   unfolding row_tree
   row_tree_parsed t h = tree_parsed l al kinds (reading (eqb l Cpp) kinds) (λ x a k m e. row_derived kinds (eqb l Cpp) e) t h

@@ -1,5 +1,7 @@
 -- From what the row module says to the answer of a file. Assumes nothing.
-use Rattle.std.specs.Prelude.{ℕ, suc, ◌≤◌, ◌≡◌, refl, List, [], ◌∷◌, map, take}
+use Rattle.type_name.specs.declared.file_row.FileRow.{FileRow}
+use Rattle.rows.specs.Answer.{refused_with, Answer}
+use Rattle.std.specs.Prelude.{ℕ, suc, ◌≤◌, ◌≡◌, refl, List, [], ◌∷◌, map, take, Err, Ok, Result}
 use Rattle.std.proofs.Math.Path.{sym, ap}
 use Rattle.std.proofs.Common.{◌∙◌, subst, arith}
 use Rattle.std.proofs.Math.ListN.{length}
@@ -9,40 +11,40 @@ use Rattle.rows.specs.Records
 use Rattle.rows.specs.RowRead.{Filled, InArrays, RowAnswered, Reads}
 use Rattle.rows.specs.RowRead as Rows
 use Rattle.rows.specs.Laws.RowFacts.{few_tokens}
-use Rattle.rows.specs.declared.row.RowRead.{RowRead}
-use Rattle.rows.specs.declared.answer.Answer.{Answer}
-use Rattle.rows.specs.declared.answer.Answer.TheVariants.{Refused}
 use Rattle.rows.specs.declared.answer.TypeNameError.{TypeNameError}
 use Rattle.rows.specs.declared.head.Head.{Head}
 use Rattle.type_name.specs.FileRow.{untouched, passes, on_pass, file_row}
 use Rattle.type_name.specs.Answers.{answer_of, row_answer, outcome, answer_in, answer, buffer_in, final_buffer}
 use Rattle.type_name.specs.EntrySays.{FileRowTaken, FileAnswered, ReadsFile, RowReady}
 use Rattle.type_name.specs.Promises.{Promised}
-use Rattle.type_name.specs.declared.file_row.FileRow.{FileRow}
 use Rattle.type_name.specs.Laws.FileRow.{Has, Comes, file_comes}
 use Rattle.type_name.specs.Laws.Promised.{promised}
 
 -- ---- what the code of the layers below answers, by its cases
 
-module _ {file : List ℕ} {begin most : ℕ} {kinds words places kinds' words' places' : List ℕ} {r : RowRead} where
-  pub records_refused : {e : TypeNameError} → r ≡ RowRead.Refused e → Reads format file begin most kinds words places r kinds' words' places'
+module _ {file : List ℕ} {begin most : ℕ} {kinds words places kinds' words' places' : List ℕ} {r : Result ℕ TypeNameError} where
+  pub records_refused : {e : TypeNameError} → r ≡ Err e → Reads format file begin most kinds words places r kinds' words' places'
       → records_from format file most begin ≡ Records.refused e
-  records_refused q h = subst (λ (c : RowRead). RowAnswered format file begin most kinds words places c kinds' words' places') q h.answered
+  records_refused q h = subst (λ (c : Result ℕ TypeNameError). RowAnswered format file begin most kinds words places c kinds' words' places') q h.answered
 
-  pub records_taken : {count : ℕ} → r ≡ RowRead.Tokens count → Reads format file begin most kinds words places r kinds' words' places'
+  pub records_taken : {count : ℕ} → r ≡ Ok count → Reads format file begin most kinds words places r kinds' words' places'
       → Rows.RowTaken format file begin most kinds words places count kinds' words' places'
-  records_taken q h = subst (λ (c : RowRead). RowAnswered format file begin most kinds words places c kinds' words' places') q h.answered
+  records_taken q h = subst (λ (c : Result ℕ TypeNameError). RowAnswered format file begin most kinds words places c kinds' words' places') q h.answered
 
 pub taken_few : {file : List ℕ} {begin most n : ℕ} {kinds words places kinds' words' places' : List ℕ}
     → Rows.RowTaken format file begin most kinds words places n kinds' words' places' → n ≤ most
 taken_few {file} {begin} {most} r = omega (arith, few_tokens format file most begin r.is, r.in_arrays.is_count)
 
-module _ {file : List ℕ} {room : ℕ} {kinds words : List ℕ} {r : FileRow} where
-  pub file_refused : {e : TypeNameError} → r ≡ FileRow.Refused e → ReadsFile file room r kinds words → file_row format file room ≡ untouched e
-  file_refused q h = subst (λ (c : FileRow). FileAnswered file room c kinds words) q h.answered
+-- A file's head, and how many tokens its row has, as code hands them on.
+abbrev pub the_row : Head → (count : ℕ) → Result FileRow TypeNameError
+the_row h count = Ok (record { head = h; count = count })
 
-  pub file_taken : {h : Head} {count : ℕ} → r ≡ FileRow.Row h count → ReadsFile file room r kinds words → FileRowTaken file room h count kinds words
-  file_taken q h = subst (λ (c : FileRow). FileAnswered file room c kinds words) q h.answered
+module _ {file : List ℕ} {room : ℕ} {kinds words : List ℕ} {r : Result FileRow TypeNameError} where
+  pub file_refused : {e : TypeNameError} → r ≡ Err e → ReadsFile file room r kinds words → file_row format file room ≡ untouched e
+  file_refused q h = subst (λ (c : Result FileRow TypeNameError). FileAnswered file room c kinds words) q h.answered
+
+  pub file_taken : {h : Head} {count : ℕ} → r ≡ the_row h count → ReadsFile file room r kinds words → FileRowTaken file room h count kinds words
+  file_taken q h = subst (λ (c : Result FileRow TypeNameError). FileAnswered file room c kinds words) q h.answered
 
 -- ---- what is lent of the arrays
 
@@ -91,7 +93,7 @@ module _ {file : List ℕ} {room : ℕ} {kinds words : List ℕ} {h : Head} {n :
 -- ---- the promises
 
 module _ (file before : List ℕ) where
-  pub untouched_told : {e : TypeNameError} → file_row format file (length before) ≡ untouched e → Promised file before (Refused e 0) before
+  pub untouched_told : {e : TypeNameError} → file_row format file (length before) ≡ untouched e → Promised file before (refused_with e 0) before
   unfolding answer answer_in final_buffer buffer_in outcome on_pass
   untouched_told q = promised file before _ before (rw q refl) (rw q refl)
 

@@ -1,36 +1,33 @@
 -- The parts of answers, heads and rows: where two are the same, so are their parts.
 -- Assumes nothing.
-use Rattle.std.specs.Prelude.{ℕ, ◌≤◌, ◌≡◌, Bool, true, false, ◌&&◌, List, T, leb}
+use Rattle.rows.specs.Answer.{Answer}
+use Rattle.std.specs.Prelude.{ℕ, ◌≤◌, ◌≡◌, Bool, true, false, ◌&&◌, List, T, leb, Ok, Result, Err}
 use Rattle.std.proofs.Common.{arith, leb→le, le→leb}
 use Rattle.std.proofs.Math.Facts.{and_yes}
 use Rattle.rows.specs.Records.{RowToken, Row, row}
 use Rattle.rows.specs.Refusals.{refusal_of}
 use Rattle.rows.specs.Laws.Numbered.{Between}
 use Rattle.rows.specs.declared.answer.TypeNameError.{TypeNameError}
-use Rattle.rows.specs.declared.answer.Answer.{Answer}
-use Rattle.rows.specs.declared.answer.Answer.TheVariants.{Accepted, Refused}
 use Rattle.rows.specs.declared.head.Head.{Head}
-use Rattle.rows.specs.declared.head.FileHead.{FileHead}
-use Rattle.rows.specs.declared.head.FileHead.TheVariants.{Formed}
 
 -- 1 if the answer is refused.
 abbrev pub is_refused : Answer → ℕ
-is_refused (Accepted nodes m) = 0
-is_refused (Refused e m) = 1
+is_refused (Ok a) = 0
+is_refused (Err r) = 1
 
 -- The refusal's number, 0 if the answer is accepted.
 abbrev pub number_in : Answer → ℕ
-number_in (Accepted nodes m) = 0
-number_in (Refused e m) = (refusal_of e).number
+number_in (Ok a) = 0
+number_in (Err r) = (refusal_of r.error).number
 
 -- The node count, 0 if the answer is refused.
 abbrev pub nodes_in : Answer → ℕ
-nodes_in (Accepted nodes m) = nodes
-nodes_in (Refused e m) = 0
+nodes_in (Ok a) = a.nodes
+nodes_in (Err r) = 0
 
 abbrev pub steps_in : Answer → ℕ
-steps_in (Accepted nodes m) = m
-steps_in (Refused e m) = m
+steps_in (Ok a) = a.steps
+steps_in (Err r) = r.steps
 
 pub bounds : (low high : ℕ) (e : TypeNameError) → Between low high e → (low ≤ (refusal_of e).number) × ((refusal_of e).number ≤ high)
 bounds low high e t =
@@ -54,5 +51,5 @@ wider low high low' high' p q e t =
 pub one_row : (r : Row) (ts ts' : List RowToken) → r ≡ row ts → r ≡ row ts' → ts ≡ ts'
 one_row r ts ts' p q = cc
 
-pub one_head : (g : FileHead) (h h' : Head) → g ≡ Formed h → g ≡ Formed h' → h ≡ h'
+pub one_head : (g : Result Head TypeNameError) (h h' : Head) → g ≡ Ok h → g ≡ Ok h' → h ≡ h'
 one_head g h h' p q = cc

@@ -1,10 +1,9 @@
 -- The tree buffer at the end: the tree that stands in front of it, and zeros. Assumes nothing.
+use Rattle.rows.specs.Answer.{accepted_with, refused_with, Answer}
 use Rattle.std.specs.Prelude.{ℕ, ◌-◌, ◌*◌, ◌≤◌, ◌≡◌, List, [], length, drop, replicate}
 use Rattle.std.proofs.Math.Path.{refl}
 use Rattle.std.proofs.Common.{ap, ◌∙◌, subst, append-nil, arith, length-take, length-drop, drop_of_length-le}
 use Rattle.std.proofs.Math.Nat.{sub-zero}
-use Rattle.rows.specs.declared.answer.Answer.{Answer}
-use Rattle.rows.specs.declared.answer.Answer.TheVariants.{Accepted, Refused}
 use Rattle.rows.specs.declared.answer.TypeNameError.{TypeNameError}
 use Rattle.reader.specs.Nodes.{count, node_width}
 use Rattle.reader.specs.Laws.NodeNumbers.{three_each}
@@ -14,11 +13,11 @@ use Rattle.type_name.specs.Answers.{RowAnswer, accepted, refused, answer_in, fil
 use Rattle.type_name.specs.EntrySays.{InFront, ReadsRow, TreeFits, settled}
 
 module _ {a : Answer} (tree : List ℕ) where
-  pub accepted_fits : {n m : ℕ} → a ≡ Accepted n m → TreeFits a tree → node_width * n ≤ length tree
+  pub accepted_fits : {n m : ℕ} → a ≡ accepted_with n m → TreeFits a tree → node_width * n ≤ length tree
   accepted_fits e h = subst (λ (b : Answer). TreeFits b tree) e h
 
   -- Behind the tree there are zeros,
-  pub settled_tree : {n m : ℕ} {ys : List ℕ} → a ≡ Accepted n m → node_width * n ≤ length tree → ys ≡ replicate (length (lent (node_width * n) tree)) 0
+  pub settled_tree : {n m : ℕ} {ys : List ℕ} → a ≡ accepted_with n m → node_width * n ≤ length tree → ys ≡ replicate (length (lent (node_width * n) tree)) 0
       → given_back (node_width * n) tree ys ≡ settled tree a
   settled_tree {n = n} e h z =
       let k : length (lent (node_width * n) tree) ≡ length tree - node_width * n = simp (length-take, length-drop) (omega arith) in
@@ -27,7 +26,7 @@ module _ {a : Answer} (tree : List ℕ) where
       rw (e, none_left, append-nil, z, k) refl
 
   -- and after a refusal nothing else.
-  pub settled_refused : {e : TypeNameError} {m : ℕ} {ys : List ℕ} → a ≡ Refused e m → ys ≡ replicate (length tree) 0 → ys ≡ settled tree a
+  pub settled_refused : {e : TypeNameError} {m : ℕ} {ys : List ℕ} → a ≡ refused_with e m → ys ≡ replicate (length tree) 0 → ys ≡ settled tree a
   settled_refused e z = rw e z
 
 -- What is settled is what the definition says, whatever the buffer held before.

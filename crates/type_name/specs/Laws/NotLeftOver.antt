@@ -1,4 +1,5 @@
 -- Refusal 23 never comes: of a row that a file gives, every token is read and no half of a `>>` is left. Assumes nothing.
+use Rattle.rows.specs.Answer.{refused_with}
 use Rattle.std.specs.Prelude.{ℕ, ◌<◌, ◌≡◌, Bool, true, List, length, eqb}
 use Rattle.std.proofs.Math.Path.{refl}
 use Rattle.std.proofs.Common.{arith}
@@ -10,7 +11,6 @@ use Rattle.rows.specs.Refusals.{refusal_of}
 use Rattle.rows.specs.Laws.Numbered.{Between}
 use Rattle.rows.specs.Laws.RowFacts.{good_row}
 use Rattle.rows.specs.declared.answer.TypeNameError.{TypeNameError}
-use Rattle.rows.specs.declared.answer.Answer.TheVariants.{Refused}
 use Rattle.rows.specs.declared.head.Head.{Head}
 use Rattle.prescan.specs.Prescan.{Scanned, passed, prescan}
 use Rattle.prescan.specs.Prescan
@@ -75,7 +75,7 @@ module _ (language standard flag : ℕ) (kinds words : List ℕ) (known : KindsK
 -- ---- the answer to a file
 
 -- No file and no buffer is answered with 23.
-pub never_23 : (file : List ℕ) (room : ℕ) (e : TypeNameError) (m : ℕ) → answer file room ≡ Refused e m → (refusal_of e).number ≡ 23 → ⊥
+pub never_23 : (file : List ℕ) (room : ℕ) (e : TypeNameError) (m : ℕ) → answer file room ≡ refused_with e m → (refusal_of e).number ≡ 23 → ⊥
 unfolding answer outcome row_answer
 never_23 file room e m q =
     answered_refusals Other (outcome file room)

@@ -1,6 +1,7 @@
 -- "25 step count would pass the allowance, and only then": where 25 is answered, the row's steps pass the file's allowance.
 -- Assumes nothing.
-use Rattle.std.specs.Prelude.{ℕ, ◌<◌, ◌≡◌, List, leb}
+use Rattle.rows.specs.Answer.{refused_with}
+use Rattle.std.specs.Prelude.{ℕ, ◌<◌, ◌≡◌, List, leb, Ok}
 use Rattle.std.proofs.Common.{sym, inl, inr, arith}
 use Rattle.std.proofs.Math.Path.{ap}
 use Rattle.std.proofs.Math.Dec.{nleb→lt}
@@ -9,9 +10,7 @@ use Rattle.rows.specs.Records.{RowToken, row, head, records_from, kinds_of, word
 use Rattle.rows.specs.Refusals.{refusal_of}
 use Rattle.rows.specs.Laws.Tests.{by_if}
 use Rattle.rows.specs.declared.answer.TypeNameError.TheVariants.{AllowancePassed}
-use Rattle.rows.specs.declared.answer.Answer.TheVariants.{Refused}
 use Rattle.rows.specs.declared.head.Head.{Head}
-use Rattle.rows.specs.declared.head.FileHead.TheVariants as FileHead
 use Rattle.type_name.specs.FileRow.{HeadRow, Outcome, untouched, passes, on_pass, file_row}
 use Rattle.type_name.specs.Answers.{RowAnswer, accepted, refused, unlimited, row_steps, answer_within, answer_of, row_answer, outcome, answer_in, answer}
 use Rattle.type_name.specs.Laws.Fields.{number_in, steps_in, bounds}
@@ -21,7 +20,7 @@ use Rattle.type_name.specs.Laws.Total.{Unspent, unlimited_unspent}
 -- The file holds a row whose steps, counted without an allowance, pass the file's; and these steps are the allowance.
 pub record Spent (file : List ℕ) (steps : ℕ) : Type 0 where
   pub head_of : Head
-  pub formed : head format file ≡ FileHead.Formed head_of
+  pub formed : head format file ≡ Ok head_of
   pub tokens : List RowToken
   pub row_read : records_from format file most_tokens head_length ≡ row tokens
   pub passes : head_of.allowance < row_steps (unlimited head_of.language head_of.standard head_of.flag (kinds_of tokens) (words_of tokens))
@@ -29,7 +28,7 @@ pub record Spent (file : List ℕ) (steps : ℕ) : Type 0 where
 
 -- An answer of 25 with these steps.
 abbrev Is25 : Outcome RowAnswer → (steps : ℕ) → Type 0
-Is25 o m = answer_in o ≡ Refused AllowancePassed m
+Is25 o m = answer_in o ≡ refused_with AllowancePassed m
 
 -- No other refusal is 25.
 other : (a : RowAnswer) → Unspent a → (m : ℕ) → Is25 (passes a) m → ⊥
@@ -56,6 +55,6 @@ module _ (file : List ℕ) (room m : ℕ) where
       (unlimited_unspent h.language h.standard h.flag (kinds_of r.tokens) (words_of r.tokens)) m q in
       record { head_of = h; formed = c.formed; tokens = r.tokens; row_read = c.row_is; passes = p.0; is_allowance = p.1 }
 
-  pub only_then : answer file room ≡ Refused AllowancePassed m → Spent file m
+  pub only_then : answer file room ≡ refused_with AllowancePassed m → Spent file m
   unfolding answer outcome
   only_then q = row_spent (file_row format file room) (file_comes file room) q

@@ -1,5 +1,6 @@
 -- The demands' clauses about accepted rows follow from the answer and the buffer being the definition's.
 -- Assumes nothing.
+use Rattle.rows.specs.Answer.{accepted_with, Answer}
 use Rattle.std.specs.Prelude.{ℕ, ◌≤◌, ◌≡◌, List, length, take, eqb}
 use Rattle.std.proofs.Common.{sym, subst, ◌∙◌, arith}
 use Rattle.std.proofs.Math.Path.{ap}
@@ -8,8 +9,6 @@ use Rattle.rows.specs.Languages.{Cpp}
 use Rattle.rows.specs.Format.{format, head_length, most_tokens}
 use Rattle.rows.specs.Records.{RowToken, kinds_of, words_of}
 use Rattle.rows.specs.Laws.RowFacts.{GoodTokens, good_row}
-use Rattle.rows.specs.declared.answer.Answer.{Answer}
-use Rattle.rows.specs.declared.answer.Answer.TheVariants.{Accepted}
 use Rattle.prescan.specs.Prescan.{Scan, passed, prescan}
 use Rattle.prescan.specs.Laws.Pairs.{prescan_pairs}
 use Rattle.reader.specs.Nodes.{Nodes, count, records}
@@ -36,7 +35,7 @@ use Rattle.type_name.specs.Laws.Stable.{comes_back}
 -- ---- the tree is the definition's
 
 -- An accepted answer comes of an accepted tree.
-from_answer : (o : Outcome RowAnswer) (nodes steps : ℕ) → answer_in o ≡ Accepted nodes steps → (x : Nodes) × (o ≡ passes (accepted x steps)) × (count x ≡ nodes)
+from_answer : (o : Outcome RowAnswer) (nodes steps : ℕ) → answer_in o ≡ accepted_with nodes steps → (x : Nodes) × (o ≡ passes (accepted x steps)) × (count x ≡ nodes)
 unfolding answer_in
 from_answer (untouched e) nodes steps q = let clash : ◌≡◌ {A = ℕ} 1 0 = ap is_refused q in absurd (omega (arith, clash))
 from_answer (passes (accepted x m)) nodes steps q = (x, ap (λ (k : ℕ). passes (accepted x k)) (ap steps_in q), ap nodes_in q)
@@ -49,7 +48,7 @@ front room x = take-append_seam (records x) _
 -- Whatever an entry answers to a head and a row, and leaves in the buffer for it.
 module _ (answers : HeadRow → RowAnswer) (file before : List ℕ) (a : Answer) (after : List ℕ)
     (answered : a ≡ answer_in (entry_outcome format answers file (length before))) (buffered : after ≡ buffer_in before (entry_outcome format answers file (length before))) where
-  pub tree_defined : (nodes steps : ℕ) → a ≡ Accepted nodes steps → TreeOf (entry_outcome format answers file (length before)) file before a after steps
+  pub tree_defined : (nodes steps : ℕ) → a ≡ accepted_with nodes steps → TreeOf (entry_outcome format answers file (length before)) file before a after steps
   unfolding buffer_in
   tree_defined nodes steps q =
       let t = from_answer (entry_outcome format answers file (length before)) nodes steps (sym answered ∙ q) in
@@ -59,7 +58,7 @@ module _ (answers : HeadRow → RowAnswer) (file before : List ℕ) (a : Answer)
         tokens = f.0;
         tree = t.0;
         accepted_as = record {
-          answered = q ∙ ap (λ (k : ℕ). Accepted k steps) (sym t.2);
+          answered = q ∙ ap (λ (k : ℕ). accepted_with k steps) (sym t.2);
           row_read = f.1.row_is;
           tree_held = rw w (front (length before) t.0);
         };

@@ -1,6 +1,7 @@
 -- What holds of every refusal: of a row's answer, place by place, and of a file's.
 -- Assumes nothing.
-use Rattle.std.specs.Prelude.{ℕ, ◌-◌, ◌<◌, refl, List, length, replicate, leb}
+use Rattle.rows.specs.Answer.{refused_with, Answer}
+use Rattle.std.specs.Prelude.{ℕ, ◌-◌, ◌<◌, refl, List, length, replicate, leb, None, Option, Some, Err, Ok}
 use Rattle.std.proofs.Math.Path.{◌≡◌, ap, subst}
 use Rattle.std.proofs.Common.{arith}
 use Rattle.rows.specs.Format.{format}
@@ -10,13 +11,9 @@ use Rattle.rows.specs.Laws.Numbered.{Between}
 use Rattle.rows.specs.declared.answer.Feature.{Feature}
 use Rattle.rows.specs.declared.answer.TypeNameError.{TypeNameError}
 use Rattle.rows.specs.declared.answer.TypeNameError.TheVariants.{Empty, AllowancePassed, NoTypeName, NotAvailableInProfile}
-use Rattle.rows.specs.declared.answer.Answer.{Answer}
-use Rattle.rows.specs.declared.answer.Answer.TheVariants.{Accepted, Refused}
 use Rattle.reader.specs.Nodes.{Nodes}
 use Rattle.structure.specs.Said.{Said, holds, fails}
 use Rattle.profile.specs.Profile.{missing_feature}
-use Rattle.profile.specs.declared.profile.Lack.{Lack}
-use Rattle.profile.specs.declared.profile.Lack.TheVariants.{Nothing, Lacks}
 use Rattle.type_name.specs.FileRow.{HeadRow, Outcome, untouched, passes, on_pass, file_row, entry_outcome}
 use Rattle.type_name.specs.Answers.{RowAnswer, accepted, refused, on_tree, structure_of, by_structure, by_profile, tree_checked, row_steps, answer_within, answer_in, filled, buffer_in}
 use Rattle.type_name.specs.Promises.{last_untouched, RefusedBuffer}
@@ -25,8 +22,8 @@ use Rattle.type_name.specs.Laws.FileRow.{Has, Comes, file_comes}
 
 -- The refusal of an answer; any, if it is accepted.
 abbrev error_in : Answer → TypeNameError
-error_in (Accepted nodes m) = Empty
-error_in (Refused e m) = e
+error_in (Ok a) = Empty
+error_in (Err r) = r.error
 
 module _ (P : TypeNameError → Type 0) where
   -- If the row is refused, its refusal is so.
@@ -46,10 +43,10 @@ module _ (P : TypeNameError → Type 0) where
     structure_refusals x m (holds n) = tt
     structure_refusals x m (fails n) = of_structure
 
-    profile_refusals : (x : Nodes) (m : ℕ) (k : Lack) → Refusals (by_profile x m k)
+    profile_refusals : (x : Nodes) (m : ℕ) (k : Option Feature) → Refusals (by_profile x m k)
     unfolding by_profile
-    profile_refusals x m Nothing = tt
-    profile_refusals x m (Lacks f) = of_profile f
+    profile_refusals x m None = tt
+    profile_refusals x m (Some f) = of_profile f
 
     pub checked_refusals : (language standard flag : ℕ) (kinds words : List ℕ) (a : RowAnswer) → Refusals a → Refusals (tree_checked language standard flag kinds words a)
     unfolding tree_checked
@@ -78,7 +75,7 @@ module _ (P : TypeNameError → Type 0) where
     pub file_refusals : FileRefusals (entry_outcome format answers file room)
     file_refusals = row_refusals (file_row format file room) (file_comes file room)
 
-  pub answered_refusals : (o : Outcome RowAnswer) → FileRefusals o → (e : TypeNameError) (m : ℕ) → answer_in o ≡ Refused e m → P e
+  pub answered_refusals : (o : Outcome RowAnswer) → FileRefusals o → (e : TypeNameError) (m : ℕ) → answer_in o ≡ refused_with e m → P e
   unfolding answer_in
   answered_refusals (untouched e') p e m q = subst P (ap error_in q) p
   answered_refusals (passes (accepted x k)) p e m q = let clash : ◌≡◌ {A = ℕ} 0 1 = ap is_refused q in absurd (omega (arith, clash))
@@ -100,7 +97,7 @@ abbrev pub Apart : Outcome RowAnswer → Type 0
 Apart (untouched e) = Between 1 last_untouched e
 Apart (passes a) = Refusals Behind a
 
-pub buffer_of : (before : List ℕ) (o : Outcome RowAnswer) → Apart o → (e : TypeNameError) (m : ℕ) → answer_in o ≡ Refused e m → RefusedBuffer before (buffer_in before o) e
+pub buffer_of : (before : List ℕ) (o : Outcome RowAnswer) → Apart o → (e : TypeNameError) (m : ℕ) → answer_in o ≡ refused_with e m → RefusedBuffer before (buffer_in before o) e
 unfolding answer_in buffer_in filled
 buffer_of before (untouched e') p e m q =
     let same : (refusal_of e').number ≡ (refusal_of e).number = ap number_in q in

@@ -1,7 +1,7 @@
 -- The row of a file is made of the bytes behind its head alone.
 -- Assumes nothing.
 use Prim.Native.Nat.{ℕ, zero, suc, ◌+◌, ◌-◌, ◌≤◌}
-use Rattle.std.specs.Prelude.{◌≡◌, Bool, true, false, List, [], length, get_or, drop}
+use Rattle.std.specs.Prelude.{◌≡◌, Bool, true, false, List, [], length, get_or, drop, None, Option, Some}
 use Rattle.std.proofs.Math.Path.{refl, ap}
 use Rattle.std.proofs.Common.{sym, ◌∙◌, arith, get_or-drop, drop-drop}
 use Rattle.std.proofs.Math.Dec.{leb}
@@ -59,10 +59,10 @@ module _ (f : Format) (file file' : List ℕ) (n : ℕ) (same : drop n file' ≡
     unfolding found
     found_same = rw (formed_same, kind_same, length_same) refl
 
-    after_same : (t : TokenRecord) (rest rest' : ℕ → Tokens) → ((next : ℕ) → n ≤ next → rest' next ≡ rest next) → after_record f file' at t rest' ≡ after_record f file at t rest
+    after_same : (t : Option TokenRecord) (rest rest' : ℕ → Tokens) → ((next : ℕ) → n ≤ next → rest' next ≡ rest next) → after_record f file' at t rest' ≡ after_record f file at t rest
     unfolding after_record
-    after_same TokenRecord.Malformed rest rest' ih = refl
-    after_same (TokenRecord.Formed kind long) rest rest' ih = rw (word_same, ih (at + long) (omega arith)) refl
+    after_same None rest rest' ih = refl
+    after_same (Some r) rest rest' ih = rw (word_same, ih (at + r.length) (omega arith)) refl
 
   at_end_same : (b b' : Bool) (at : ℕ) (r r' : Tokens) → b' ≡ b → r' ≡ r
       → ◌≡◌ {A = Tokens} (elim b' as (λ _. Tokens) [ true ↦ tokens [] at | false ↦ r' ]) (elim b as (λ _. Tokens) [ true ↦ tokens [] at | false ↦ r ])
@@ -77,7 +77,7 @@ module _ (f : Format) (file file' : List ℕ) (n : ℕ) (same : drop n file' ≡
       let rest' : ℕ → Tokens = λ next. tokens_from f file' most next in
       at_end_same (leb (length file) at) (leb (length file') at) at (after_record f file at (found f file at) rest) (after_record f file' at (found f file' at) rest')
       (ap (λ (k : ℕ). leb k at) long)
-      (ap (λ (t : TokenRecord). after_record f file' at t rest') (found_same at p) ∙ after_same at p (found f file at) rest rest' (λ next q. tokens_same most next q))
+      (ap (λ (t : Option TokenRecord). after_record f file' at t rest') (found_same at p) ∙ after_same at p (found f file at) rest rest' (λ next q. tokens_same most next q))
 
   end_same : (r : Tokens) → to_end f file' r ≡ to_end f file r
   unfolding to_end

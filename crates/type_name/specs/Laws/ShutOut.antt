@@ -1,7 +1,8 @@
 -- What the contract shuts out: document 01, "What the contracts say of rows", c. Whatever reader has the definition's answer and the definition's
 -- buffer for every file and buffer is none of those named there. Each is shown by a file of a short row, computed.
 -- Assumes nothing.
-use Rattle.std.specs.Prelude.{ℕ, zero, suc, ◌+◌, ◌≤◌, ◌<◌, refl, replicate}
+use Rattle.rows.specs.Answer.{accepted_with, refused_with, Answer}
+use Rattle.std.specs.Prelude.{ℕ, zero, suc, ◌+◌, ◌≤◌, ◌<◌, refl, replicate, Ok}
 use Rattle.std.proofs.Math.Path.{◌≡◌, sym, ap}
 use Rattle.std.proofs.Common.{subst, ◌∙◌, arith}
 use mathlib.Core.List.{List, [], ◌∷◌, ◌++◌}
@@ -13,10 +14,7 @@ use Rattle.rows.specs.Kinds.{LeftParen, RightParen, Star, Less, Greater}
 use Rattle.rows.specs.Records.{RowToken, row, head, records_from, kinds_of, words_of}
 use Rattle.rows.specs.declared.answer.TypeNameError.{TypeNameError}
 use Rattle.rows.specs.declared.answer.TypeNameError.TheVariants.{AllowancePassed}
-use Rattle.rows.specs.declared.answer.Answer.{Answer}
-use Rattle.rows.specs.declared.answer.Answer.TheVariants.{Accepted, Refused}
 use Rattle.rows.specs.declared.head.Head.{Head}
-use Rattle.rows.specs.declared.head.FileHead.TheVariants.{Formed}
 use Rattle.reader.specs.Nodes.{Nodes, none, node, t_node, g_node, l_node, a_node, count, records}
 use Rattle.reader.specs.Standing.{tokens_of}
 use Rattle.reader.specs.Written.{Token, sign}
@@ -50,11 +48,11 @@ Holds file ts = records_from format file most_tokens head_length ≡ row ts
 -- The reader accepts the file, which holds this row.
 pub record Accepts (r : Reader) (file before : List ℕ) (ts : List RowToken) (nodes steps : ℕ) : Type 0 where
   pub row_read : Holds file ts
-  pub says : r.answers file before ≡ Accepted nodes steps
+  pub says : r.answers file before ≡ accepted_with nodes steps
 
 -- "the reader that turns every row down"
 abbrev pub TurnsDown : Reader → Type 0
-TurnsDown r = (file before : List ℕ) (ts : List RowToken) → Holds file ts → (e : TypeNameError) × (steps : ℕ) × (r.answers file before ≡ Refused e steps)
+TurnsDown r = (file before : List ℕ) (ts : List RowToken) → Holds file ts → (e : TypeNameError) × (steps : ℕ) × (r.answers file before ≡ refused_with e steps)
 
 -- "the one that returns one tree for all rows": the buffer's length alone says what it holds in the end.
 abbrev pub OneTree : Reader → Type 0
@@ -80,25 +78,25 @@ CopiesFlat r =
 -- "the one that reports 25 before any step": of whatever the definition accepts.
 abbrev pub ReportsAtOnce : Reader → Type 0
 ReportsAtOnce r =
-    (file before : List ℕ) (nodes steps : ℕ) → answer file (length before) ≡ Accepted nodes steps → (m : ℕ) × (r.answers file before ≡ Refused AllowancePassed m)
+    (file before : List ℕ) (nodes steps : ℕ) → answer file (length before) ≡ accepted_with nodes steps → (m : ℕ) × (r.answers file before ≡ refused_with AllowancePassed m)
 
 -- One that reports 25 of some row whose steps stay within the allowance. "25 step count would pass the allowance, and only then".
 pub record ReportsEarly (r : Reader) : Type 0 where
   pub file : List ℕ
   pub before : List ℕ
   pub head_of : Head
-  pub formed : head format file ≡ Formed head_of
+  pub formed : head format file ≡ Ok head_of
   pub tokens : List RowToken
   pub row_read : Holds file tokens
   pub suffices : row_steps (unlimited head_of.language head_of.standard head_of.flag (kinds_of tokens) (words_of tokens)) ≤ head_of.allowance
   pub steps : ℕ
-  pub says : r.answers file before ≡ Refused AllowancePassed steps
+  pub says : r.answers file before ≡ refused_with AllowancePassed steps
 
 -- "an invented count": the head, the number of tokens and all else that is returned say how many steps.
 abbrev pub InventsSteps : Reader → Type 0
 InventsSteps r =
     (invented : Head → (tokens nodes : ℕ) → (after : List ℕ) → ℕ)
-    × ((file before : List ℕ) (h : Head) (ts : List RowToken) (nodes steps : ℕ) → head format file ≡ Formed h → Accepts r file before ts nodes steps
+    × ((file before : List ℕ) (h : Head) (ts : List RowToken) (nodes steps : ℕ) → head format file ≡ Ok h → Accepts r file before ts nodes steps
     → steps ≡ invented h (length ts) nodes (r.leaves file before))
 
 -- "a copy with groups and no lists"
@@ -133,9 +131,9 @@ dirty = replicate 36 7
 
 -- The definitions accept the row under this profile and flag, with this tree and these steps.
 record Works (language standard flag : ℕ) (ts : List Token) (x : Nodes) (steps : ℕ) : Type 0 where
-  formed : head format (file_of language standard flag ts) ≡ Formed (record { language = language; standard = standard; flag = flag; allowance = 255 })
+  formed : head format (file_of language standard flag ts) ≡ Ok (record { language = language; standard = standard; flag = flag; allowance = 255 })
   row_read : Holds (file_of language standard flag ts) (tokens_from 11 ts)
-  is_answer : answer (file_of language standard flag ts) 36 ≡ Accepted (count x) steps
+  is_answer : answer (file_of language standard flag ts) 36 ≡ accepted_with (count x) steps
   is_buffer : final_buffer (file_of language standard flag ts) dirty ≡ filled 36 (records x)
 
 -- `int`, C89
@@ -181,7 +179,7 @@ untried_works = record { formed = refl; row_read = refl; is_answer = refl; is_bu
 
 module _ (r : Reader) (m : Meets r) where
   module _ {language standard flag : ℕ} {ts : List Token} {x : Nodes} {steps : ℕ} (w : Works language standard flag ts x steps) where
-    says : r.answers (file_of language standard flag ts) dirty ≡ Accepted (count x) steps
+    says : r.answers (file_of language standard flag ts) dirty ≡ accepted_with (count x) steps
     says = m.answered (file_of language standard flag ts) dirty ∙ w.is_answer
 
     leaves : r.leaves (file_of language standard flag ts) dirty ≡ filled 36 (records x)
@@ -195,7 +193,7 @@ module _ (r : Reader) (m : Meets r) where
     held = record { answered = says; row_read = w.row_read; tree_held = rw leaves (take-append_seam (records x) _) }
 
   not_refused : {language standard flag : ℕ} {ts : List Token} {x : Nodes} {steps : ℕ} → Works language standard flag ts x steps
-      → (e : TypeNameError) (k : ℕ) → r.answers (file_of language standard flag ts) dirty ≡ Refused e k → ⊥
+      → (e : TypeNameError) (k : ℕ) → r.answers (file_of language standard flag ts) dirty ≡ refused_with e k → ⊥
   not_refused w e k q =
       let clash : ◌≡◌ {A = ℕ} 0 1 = ap is_refused (sym (says w) ∙ q) in
       omega (arith, clash)

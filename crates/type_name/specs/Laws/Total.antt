@@ -1,6 +1,7 @@
 -- Every list of bytes and every buffer has one answer, its number is one of document 01's, and a refused answer's buffer is as document 01 says.
 -- (That there is one answer is in the types: `answer` and `final_buffer` are functions of the file and the buffer, defined everywhere.)
 -- Assumes nothing.
+use Rattle.rows.specs.Answer.{refused_with}
 use Rattle.std.specs.Prelude.{ℕ, ◌≤◌, ◌≡◌, ◌⊎◌, List, [], ◌∷◌, length, T, eqb}
 use Rattle.std.proofs.Common.{ap, inr, arith}
 use Rattle.std.proofs.Math.Logic.{inl}
@@ -13,7 +14,6 @@ use Rattle.rows.specs.Laws.Tests.{by_if}
 use Rattle.rows.specs.Laws.Numbered.{Between}
 use Rattle.rows.specs.declared.answer.TypeNameError.{TypeNameError}
 use Rattle.rows.specs.declared.answer.TypeNameError.TheVariants.{FileTooLong, InvalidHead, UnknownProfile, InvalidRecord, TooManyRecords, ShortBuffer, OffsetOver32Bits, Empty, UnexpectedClosingDelimiter, UnexpectedAngle, TopLevelComma, UnexpectedEndToken, UnclosedDelimiter, UnclosedAngle, MissingTypeWord, InvalidBoundaryToken, NestingLimitExceeded, UnterminatedGroup, MismatchedClosingDelimiter, UnexpectedTokenAfterTypeName, AllowancePassed, NoTypeName, NotAvailableInProfile, InvalidRuleTable, NoRuleMatches, InvalidNameList, ShiftWithoutList, EmptyOrUnclosedList}
-use Rattle.rows.specs.declared.answer.Answer.TheVariants.{Refused}
 use Rattle.prescan.specs.Prescan.{Scan, Scanned, passed, prescan}
 use Rattle.prescan.specs.Prescan
 use Rattle.prescan.specs.Laws.Numbered.{prescan_numbered}
@@ -153,13 +153,13 @@ apart (untouched e) p = p
 apart (passes (accepted x m)) p = tt
 apart (passes (refused e m)) p = omega (arith, bounds 10 40 e p)
 
-pub refused_buffer : (file before : List ℕ) (e : TypeNameError) (m : ℕ) → answer file (length before) ≡ Refused e m → RefusedBuffer before (final_buffer file before) e
+pub refused_buffer : (file before : List ℕ) (e : TypeNameError) (m : ℕ) → answer file (length before) ≡ refused_with e m → RefusedBuffer before (final_buffer file before) e
 unfolding answer final_buffer
 refused_buffer file before e m q = buffer_of before (outcome file (length before)) (apart (outcome file (length before)) (outcome_placed file (length before))) e m q
 
 -- ---- which numbers this entry gives
 
-number_placed : (o : Outcome RowAnswer) → Placed o → (e : TypeNameError) (m : ℕ) → answer_in o ≡ Refused e m → (refusal_of e).number ≤ 40
+number_placed : (o : Outcome RowAnswer) → Placed o → (e : TypeNameError) (m : ℕ) → answer_in o ≡ refused_with e m → (refusal_of e).number ≤ 40
 unfolding answer_in
 number_placed (untouched e') p e m q = omega (arith, ap number_in q, bounds 1 6 e' p)
 number_placed (passes (accepted x n)) p e m q =
@@ -167,6 +167,6 @@ number_placed (passes (accepted x n)) p e m q =
     absurd (omega (arith, clash))
 number_placed (passes (refused e' n)) p e m q = omega (arith, ap number_in q, bounds 10 40 e' p)
 
-pub up_to_40 : (file : List ℕ) (room : ℕ) (e : TypeNameError) (m : ℕ) → answer file room ≡ Refused e m → (refusal_of e).number ≤ 40
+pub up_to_40 : (file : List ℕ) (room : ℕ) (e : TypeNameError) (m : ℕ) → answer file room ≡ refused_with e m → (refusal_of e).number ≤ 40
 unfolding answer
 up_to_40 file room e m q = number_placed (outcome file room) (outcome_placed file room) e m q

@@ -3,7 +3,7 @@ use Rattle.std.specs.Prelude.{ℕ, ◌≤◌, ◌<◌, ◌≡◌, refl, Bool, tr
 use Rattle.std.proofs.Common.{sym, ap, ◌∙◌, true≢false, arith}
 use borrow.Author.Tests.{ltb-true, eqb-true}
 use Rattle.rows.specs.Notation.{◌is_one_of◌}
-use Rattle.type_nodes.specs.Laws.Tests.{and_left, and_right}
+use Rattle.std.proofs.lemmas.Bool.{and_parts}
 
 -- A test that all of a list pass.
 unfoldable pub all_pass : (test : ℕ → Bool) → List ℕ → Bool
@@ -16,8 +16,8 @@ unfolding all_pass ◌is_one_of◌
 one_passes test w [] a h = absurd (true≢false (sym h))
 one_passes test w (v ∷ ws) a h =
     elim (eqb w v) as (λ t. eqb w v ≡ t → test w ≡ true) [
-      | true ↦ λ e. ap test (eqb-true w v e) ∙ and_left (test v) (all_pass test ws) a
-      | false ↦ λ e. one_passes test w ws (and_right (test v) (all_pass test ws) a) (rw e at h)
+      | true ↦ λ e. ap test (eqb-true w v e) ∙ (and_parts (test v) (all_pass test ws) a).0
+      | false ↦ λ e. one_passes test w ws (and_parts (test v) (all_pass test ws) a).1 (rw e at h)
     ] refl
 
 unfoldable pub all_below : (bound : ℕ) → List ℕ → Bool
@@ -27,11 +27,11 @@ all_below b (n ∷ ns) = ltb n b && all_below b ns
 module _ (b n : ℕ) (ns : List ℕ) (h : all_below b (n ∷ ns) ≡ true) where
   pub first_below : n < b
   unfolding all_below
-  first_below = ltb-true n b (and_left (ltb n b) (all_below b ns) h)
+  first_below = ltb-true n b (and_parts (ltb n b) (all_below b ns) h).0
 
   pub others_below : all_below b ns ≡ true
   unfolding all_below
-  others_below = and_right (ltb n b) (all_below b ns) h
+  others_below = (and_parts (ltb n b) (all_below b ns) h).1
 
 -- What stands in the list is below the bound.
 pub one_below : (b k : ℕ) (ns : List ℕ) → all_below b ns ≡ true → (k is_one_of ns) ≡ true → k < b

@@ -4,7 +4,7 @@ use Rattle.std.proofs.Math.Path.{sym, ap}
 use Rattle.std.proofs.Common.{◌∙◌}
 use mathlib.Core.List.{List, [], ◌∷◌}
 use Rattle.rows.specs.Notation.{◌is_one_of◌}
-use Rattle.rows.specs.Laws.Tests.{or_false, or_assoc}
+use Rattle.std.proofs.Math.Bool.{or-false, or_assoc}
 use Rattle.type_nodes.specs.Ranges.{Range, ◌is_within◌, ◌is_within_one_of◌}
 
 module _ {A : Type 0} (test : A → Bool) where
@@ -22,8 +22,8 @@ module _ {A : Type 0} (test : A → Bool) where
   module _ (walk : List A → Bool) (none : walk [] ≡ false) (more : (a : A) (l : List A) → walk (a ∷ l) ≡ (test a || walk l)) where
     chain_after : (t : Bool) (l : List A) → tests_after t l ≡ (t || walk l)
     unfolding tests_after
-    chain_after t [] = sym (or_false t) ∙ ap (λ w. t || w) (sym none)
-    chain_after t (a ∷ l) = chain_after (t || test a) l ∙ sym (or_assoc t (test a) (walk l)) ∙ ap (λ w. t || w) (sym (more a l))
+    chain_after t [] = sym (or-false t) ∙ ap (λ w. t || w) (sym none)
+    chain_after t (a ∷ l) = chain_after (t || test a) l ∙ or_assoc t (test a) (walk l) ∙ ap (λ w. t || w) (sym (more a l))
 
     pub chain_of : (l : List A) → tests l ≡ walk l
     unfolding tests

@@ -70,9 +70,6 @@ module _ {tree kinds : List ℕ} {from to : ℕ} where
   }
 
   module _ {some : Bool} {at : ℕ} (lp : CommaLoop tree kinds from to some at) where
-    pub comma_formed : NodesStand tree kinds at to
-    comma_formed = record { nodes = lp.rest; stands = lp.stands; room = lp.room; few = lp.few }
-
     pub comma_end : to ≤ at → Of tree kinds from to (λ x. some ≡ elements_are_full (split_on_commas kinds x))
     comma_end h x s = sym (lp.is x s ∙ full_none some kinds lp.rest (nothing_left lp.stands h))
 
@@ -86,12 +83,6 @@ module _ {tree kinds : List ℕ} {from to : ℕ} where
 
         after_it : Stands tree kinds e to (next lp.rest)
         after_it = subst (λ (u : ℕ). Stands tree kinds u to (next lp.rest)) (sym ended) (first lp.stands h).rest
-
-        pub comma_further : at < e
-        comma_further = omega (arith, ended)
-
-        pub comma_fits : e ≤ to
-        comma_fits = omega (arith, ended, (first lp.stands h).fits)
 
         pub comma_next : s ≡ 12 → some ≡ true → CommaLoop tree kinds from to false e
         comma_next c z = record {

@@ -1,12 +1,10 @@
 -- The walks over a list of words that count those seen. Assumes nothing.
 use Prim.Native.Nat.{ℕ, zero, suc, ◌+◌, ◌≤◌, ◌<◌}
 use Rattle.std.specs.Prelude.{◌≡◌, refl, Bool, true, false, ◌&&◌, ◌||◌, not, List, [], ◌∷◌, length, get_or, drop, ltb, eqb, if◌then◌else◌}
-use Rattle.std.proofs.Math.Path.{sym}
-use Rattle.std.proofs.Common.{◌∙◌, arith, add-one, drop_of_length-le, drop-cons, lt-ltb}
+use Rattle.std.proofs.Common.{arith, add-one, drop_of_length-le, drop-cons, lt-ltb, le-ltb}
 use Rattle.std.proofs.Math.Dec.{eqb-zero-suc, eqb-suc-zero, eqb-suc-suc}
 use Rattle.rows.specs.Notation.{◌is_one_of◌}
 use Rattle.rows.specs.Words.{long}
-use Rattle.rows.specs.Laws.Tests.{or_false, or_assoc}
 use Rattle.type_nodes.specs.Sets.{builtin_type_words, is_c_builtin_type_word}
 use Rattle.type_nodes.specs.Combination.{times, has, once_more, how_many, builtin_words, no_builtin_word, too_often, counted_words}
 use Rattle.type_nodes.specs.RepresentedSpecifiers.{HaveCounts}
@@ -17,17 +15,14 @@ counted [] h i p = absurd (omega arith)
 counted (w ∷ ws) h zero p = first_below counted_words w ws h
 counted (w ∷ ws) h (suc i) p = counted ws (others_below counted_words w ws h) i (omega arith)
 
-pub all_left : (words seen : List ℕ) → 0 + how_many (drop 0 words) seen ≡ how_many words seen
-all_left words seen = omega arith
-
 module _ (words seen : List ℕ) (i : ℕ) where
   pub none_left : (n total : ℕ) → length words ≤ i → n + how_many (drop i words) seen ≡ total → n ≡ total
   unfolding how_many
   none_left n total h e = let f : n + 0 ≡ total = rw (drop_of_length-le words {i = i} h) at e in omega (arith, f)
 
-  pub all_often : {over total : Bool} → length words ≤ i → (over || too_often (drop i words) seen) ≡ total → over ≡ total
+  pub none_often : {total : Bool} → length words ≤ i → too_often (drop i words) seen ≡ total → false ≡ total
   unfolding too_often
-  all_often {over} {total} h e = let f : (over || false) ≡ total = rw (drop_of_length-le words {i = i} h) at e in sym (or_false over) ∙ f
+  none_often h e = rw (drop_of_length-le words {i = i} h) at e
 
   module _ (h : i < length words) where
     pub one_met : (n total : ℕ) → has (get_or words i 0) seen ≡ true → n + how_many (drop i words) seen ≡ total
@@ -44,12 +39,18 @@ module _ (words seen : List ℕ) (i : ℕ) where
         let f : n + how_many (drop i words) seen ≡ n + how_many (drop (suc i) words) seen = rw (drop-cons words i 0 h, p) in
         rw (add-one i) (omega (arith, e, f))
 
-    pub one_often : (over : Bool) {total : Bool} {m t : ℕ} → m ≡ (if eqb (get_or words i 0) long then 2 else 1) → t ≡ times (get_or words i 0) seen
-        → (over || too_often (drop i words) seen) ≡ total → ((over || ltb m t) || too_often (drop (i + 1) words) seen) ≡ total
-    unfolding too_often
-    one_often over {total} {m} {t} p q e =
-        let f : (over || too_often (drop i words) seen) ≡ (over || (ltb m t || too_often (drop (suc i) words) seen)) = rw (drop-cons words i 0 h, ← p, ← q) in
-        rw (add-one i) (sym (or_assoc over (ltb m t) (too_often (drop (suc i) words) seen)) ∙ sym f ∙ e)
+    -- The first of the words left is over its limit, or the others decide.
+    module _ {total : Bool} {m t : ℕ} (p : m ≡ (if eqb (get_or words i 0) long then 2 else 1)) (q : t ≡ times (get_or words i 0) seen)
+        (e : too_often (drop i words) seen ≡ total) where
+      first_often : (ltb m t || too_often (drop (suc i) words) seen) ≡ total
+      unfolding too_often
+      first_often = rw (p, q) (rw (drop-cons words i 0 h) at e)
+
+      pub one_often : m < t → true ≡ total
+      one_often o = rw (lt-ltb m t o) at first_often
+
+      pub one_seldom : t ≤ m → too_often (drop (i + 1) words) seen ≡ total
+      one_seldom o = rw (add-one i) (rw (le-ltb m t o) at first_often)
 
 -- ---- whether any was seen
 

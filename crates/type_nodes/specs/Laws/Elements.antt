@@ -96,9 +96,6 @@ module _ {tree kinds : List ℕ} {from to : ℕ} where
   }
 
   module _ {at : ℕ} (lp : ElementLoop tree kinds from to at) where
-    pub element_formed : NodesStand tree kinds at to
-    element_formed = record { nodes = lp.rest; stands = lp.stands; room = lp.room; few = lp.few }
-
     pub element_last : to ≤ at → Of tree kinds from to (λ x. at ≡ from + count (first_element kinds x))
     element_last h x s = omega (arith, lp.is x s, first_none kinds lp.rest (nothing_left lp.stands h))
 
@@ -107,12 +104,6 @@ module _ {tree kinds : List ℕ} {from to : ℕ} where
       element_comma e x s = omega (arith, lp.is x s, first_comma kinds lp.rest (sym (sh lp.rest lp.stands) ∙ e))
 
       module _ {e : ℕ} (en : Of tree kinds at to (λ x. e ≡ suc (at + count (below x)))) where
-        pub element_further : at < e
-        element_further = omega (arith, en lp.rest lp.stands)
-
-        pub element_fits : e ≤ to
-        element_fits = omega (arith, en lp.rest lp.stands, (first lp.stands h).fits)
-
         pub element_next : (m ≡ Comma → ⊥) → ElementLoop tree kinds from to e
         element_next n = record {
           rest = next lp.rest;

@@ -1,6 +1,6 @@
 -- The walk that finds a node of a shape. Assumes nothing.
 use Rattle.std.specs.Prelude.{ℕ, suc, ◌+◌, ◌*◌, ◌≤◌, ◌<◌, ◌≡◌, refl, true, false, ◌||◌, List, length, eqb}
-use Rattle.std.proofs.Common.{sym, ◌∙◌, subst, true≢false, arith, eq-eqb, ne_eqb}
+use Rattle.std.proofs.Common.{sym, ◌∙◌, subst, true≢false, eq-eqb, ne_eqb}
 use Rattle.reader.specs.Nodes.{Nodes, none, node, count, node_width, numbers_bound}
 use Rattle.type_nodes.specs.Nodes.{empty, next, shape}
 use Rattle.type_nodes.specs.AbstractDeclarators.{any}
@@ -34,9 +34,6 @@ module _ {tree kinds : List ℕ} {from to : ℕ} where
   }
 
 module _ {tree kinds : List ℕ} {wanted from to at : ℕ} (lp : AnyLoop tree kinds wanted from to at) where
-  pub any_formed : NodesStand tree kinds at to
-  any_formed = record { nodes = lp.rest; stands = lp.stands; room = lp.room; few = lp.few }
-
   pub any_end : to ≤ at → Of tree kinds from to (λ x. false ≡ any kinds wanted x)
   any_end h x s = sym (lp.is x s ∙ any_none kinds wanted lp.rest (nothing_left lp.stands h))
 
@@ -46,12 +43,6 @@ module _ {tree kinds : List ℕ} {wanted from to at : ℕ} (lp : AnyLoop tree ki
         sym (lp.is x t ∙ any_first kinds wanted lp.rest (first lp.stands h).full ∙ rw (← sh lp.rest lp.stands, eq-eqb m wanted e) refl)
 
     module _ {e : ℕ} (en : Of tree kinds at to (λ x. e ≡ suc (at + count (below x)))) where
-      pub any_further : at < e
-      any_further = omega (arith, en lp.rest lp.stands)
-
-      pub any_fits : e ≤ to
-      any_fits = omega (arith, en lp.rest lp.stands, (first lp.stands h).fits)
-
       pub any_next : (m ≡ wanted → ⊥) → AnyLoop tree kinds wanted from to e
       any_next n = record {
         rest = next lp.rest;

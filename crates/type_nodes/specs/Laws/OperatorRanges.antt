@@ -4,10 +4,10 @@ use Rattle.std.proofs.Common.{sym, ◌∙◌, arith, ltb-true, ltb-false, eqb-tr
 use Rattle.std.proofs.lemmas.Bool.{lt-leb, eqb-false}
 use Rattle.rows.specs.Notation.{◌is_one_of◌}
 use Rattle.rows.specs.Languages.{Fortran}
-use Rattle.rows.specs.Laws.Tests.{and_false}
+use Rattle.std.proofs.Math.Bool.{and-false}
 use Rattle.type_nodes.specs.Sets.{c_family_operators, fortran_operators, is_binary_or_assignment_operator}
 use Rattle.type_nodes.specs.Ranges.{Range, ◌is_within◌, ◌is_within_one_of◌, kind_count, runs, c_family_ranges, fortran_ranges, operator_ranges}
-use Rattle.type_nodes.specs.Laws.Tests.{and_left, and_right}
+use Rattle.std.proofs.lemmas.Bool.{and_parts}
 use Rattle.type_nodes.specs.Laws.Bounds.{all_below, first_below, others_below, none_from}
 
 -- ---- two tests of a number, compared at every number below a bound
@@ -33,8 +33,8 @@ unfolding agree_below
 agreed f g zero h k p = absurd (omega arith)
 agreed f g (suc n) h k p =
     elim (eqb k n) as (λ t. eqb k n ≡ t → f k ≡ g k) [
-      | true ↦ λ e. rw (eqb-true k n e) (same_true (f n) (g n) (and_left (same (f n) (g n)) (agree_below f g n) h))
-      | false ↦ λ e. agreed f g n (and_right (same (f n) (g n)) (agree_below f g n) h) k (omega (arith, eqb-false k n e))
+      | true ↦ λ e. rw (eqb-true k n e) (same_true (f n) (g n) (and_parts (same (f n) (g n)) (agree_below f g n) h).0)
+      | false ↦ λ e. agreed f g n (and_parts (same (f n) (g n)) (agree_below f g n) h).1 k (omega (arith, eqb-false k n e))
     ] refl
 
 -- ---- past the last number of every range
@@ -47,7 +47,7 @@ none_within : (b k : ℕ) (rs : List Range) → all_below b (lasts rs) ≡ true 
 unfolding ◌is_within_one_of◌ ◌is_within◌ lasts
 none_within b k [] a p = refl
 none_within b k (r ∷ rs) a p =
-    rw (lt-leb k r.last (omega (arith, first_below b r.last (lasts rs) a)), and_false (leb r.first k))
+    rw (lt-leb k r.last (omega (arith, first_below b r.last (lasts rs) a)), and-false (leb r.first k))
     (none_within b k rs (others_below b r.last (lasts rs) a) p)
 
 -- ---- whether ranges decide a set of kinds: the test, and the law
@@ -63,15 +63,15 @@ module _ (rs : List Range) (ns : List ℕ) where
 
   module _ (h : (agree && within_kinds) ≡ true) where
     none_past : (k : ℕ) → kind_count ≤ k → (k is_one_of ns) ≡ false
-    none_past k p = none_from kind_count k ns (and_right (all_below kind_count (lasts rs)) (all_below kind_count ns) (and_right agree within_kinds h)) p
+    none_past k p = none_from kind_count k ns (and_parts (all_below kind_count (lasts rs)) (all_below kind_count ns) (and_parts agree within_kinds h).1).1 p
 
     decided : (k : ℕ) → (k is_within_one_of rs) ≡ (k is_one_of ns)
     decided k =
         elim (ltb k kind_count) as (λ t. ltb k kind_count ≡ t → (k is_within_one_of rs) ≡ (k is_one_of ns)) [
-          | true ↦ λ e. agreed (λ k. k is_within_one_of rs) (λ k. k is_one_of ns) kind_count (and_left agree within_kinds h) k (ltb-true k kind_count e)
+          | true ↦ λ e. agreed (λ k. k is_within_one_of rs) (λ k. k is_one_of ns) kind_count (and_parts agree within_kinds h).0 k (ltb-true k kind_count e)
           | false ↦ λ e.
               let past : kind_count ≤ k = ltb-false k kind_count e in
-              let ends : all_below kind_count (lasts rs) ≡ true = and_left (all_below kind_count (lasts rs)) (all_below kind_count ns) (and_right agree within_kinds h) in
+              let ends : all_below kind_count (lasts rs) ≡ true = (and_parts (all_below kind_count (lasts rs)) (all_below kind_count ns) (and_parts agree within_kinds h).1).0 in
               none_within kind_count k rs ends past ∙ sym (none_past k past)
         ] refl
 

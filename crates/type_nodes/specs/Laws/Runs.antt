@@ -2,13 +2,17 @@
 use Prim.Native.Nat.{ℕ, zero, suc, ◌+◌, ◌≤◌, ◌<◌}
 use Rattle.std.specs.Prelude.{◌≡◌, Bool, not, ◌&&◌, ◌||◌, List, [], ◌∷◌, length, leb, if◌then◌else◌}
 use Rattle.std.proofs.Math.Path.{refl}
-use Rattle.std.proofs.Common.{sym, ◌∙◌}
+use Rattle.std.proofs.Common.{sym, ◌∙◌, true≢false}
 use Rattle.std.proofs.Math.Bool.{true, false}
 use native.Mathlib.Omega.{arith}
 use borrow.Author.Tests.{leb-true, leb-false, le-leb, not-true}
-use Rattle.rows.specs.Laws.Tests.{and_true}
+use Rattle.std.proofs.Math.Bool.{and-true}
 use Rattle.type_nodes.specs.Ranges.{Range, ◌is_within◌, ◌is_within_one_of◌, begins_run, runs}
-use Rattle.type_nodes.specs.Laws.Tests.{and_left, and_right, or_left, neither_left, neither_right}
+use Rattle.std.proofs.lemmas.Bool.{and_parts, or_parts}
+
+or_left : (a b : Bool) → (a || b) ≡ true → b ≡ false → a ≡ true
+or_left true b h e = refl
+or_left false b h e = absurd (true≢false (sym h ∙ e))
 
 -- ---- sets that agree below a bound have the same runs there
 
@@ -27,17 +31,17 @@ runs_alike f g (suc n) h = rw (runs_alike f g n (λ k p. h k (omega arith)), beg
 module _ (r : Range) (k : ℕ) where
   first_le : (k is_within r) ≡ true → r.first ≤ k
   unfolding ◌is_within◌
-  first_le h = leb-true r.first k (and_left (leb r.first k) (leb k r.last) h)
+  first_le h = leb-true r.first k (and_parts (leb r.first k) (leb k r.last) h).0
 
   le_last : (k is_within r) ≡ true → k ≤ r.last
   unfolding ◌is_within◌
-  le_last h = leb-true k r.last (and_right (leb r.first k) (leb k r.last) h)
+  le_last h = leb-true k r.last (and_parts (leb r.first k) (leb k r.last) h).1
 
   before_first : (k is_within r) ≡ false → k ≤ r.last → k < r.first
   unfolding ◌is_within◌
   before_first h p =
       let not_from : (leb r.first k && true) ≡ false = rw (le-leb k r.last p) at h in
-      leb-false r.first k (sym (and_true (leb r.first k)) ∙ not_from)
+      leb-false r.first k (sym (and-true (leb r.first k)) ∙ not_from)
 
 module _ (r : Range) (f : ℕ → Bool) where
   abbrev with_range : ℕ → Bool
@@ -48,12 +52,12 @@ module _ (r : Range) (f : ℕ → Bool) where
   unfolding begins_run
   new_run zero h e = omega (arith, first_le r 0 (or_left (0 is_within r) (f 0) h e))
   new_run (suc n) h e =
-      let neither : with_range n ≡ false = not-true (with_range n) (and_right (with_range (suc n)) (not (with_range n)) h) in
-      let not_f : f n ≡ false = neither_right (n is_within r) (f n) neither in
+      let neither : with_range n ≡ false = not-true (with_range n) (and_parts (with_range (suc n)) (not (with_range n)) h).1 in
+      let not_f : f n ≡ false = (or_parts (n is_within r) (f n) neither).1 in
       let no_next : (f (suc n) && true) ≡ false = rw not_f at e in
-      let either : with_range (suc n) ≡ true = and_left (with_range (suc n)) (not (with_range n)) h in
-      let within : (suc n is_within r) ≡ true = or_left (suc n is_within r) (f (suc n)) either (sym (and_true (f (suc n))) ∙ no_next) in
-      omega (arith, first_le r (suc n) within, before_first r n (neither_left (n is_within r) (f n) neither) (omega (arith, le_last r (suc n) within)))
+      let either : with_range (suc n) ≡ true = (and_parts (with_range (suc n)) (not (with_range n)) h).0 in
+      let within : (suc n is_within r) ≡ true = or_left (suc n is_within r) (f (suc n)) either (sym (and-true (f (suc n))) ∙ no_next) in
+      omega (arith, first_le r (suc n) within, before_first r n (or_parts (n is_within r) (f n) neither).0 (omega (arith, le_last r (suc n) within)))
 
   -- Up to the range's first number there is no run more, after it at most one.
   abbrev Few : (n more runs_of_f : ℕ) → Type 0

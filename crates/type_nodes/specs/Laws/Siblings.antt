@@ -1,9 +1,10 @@
 -- What stands in a range of nodes, as code reads it. Assumes nothing.
-use Rattle.std.specs.Prelude.{ℕ, zero, suc, ◌+◌, ◌≤◌, ◌<◌, Bool, ◌&&◌, List, [], ◌∷◌, length, get_or, eqb, if◌then◌else◌}
+use Rattle.std.specs.Prelude.{ℕ, suc, ◌+◌, ◌≤◌, ◌<◌, Bool, ◌&&◌, List, length, get_or, eqb, if◌then◌else◌, Option, Some, None}
 use Rattle.std.proofs.Math.Path.{◌≡◌, refl}
 use Rattle.std.proofs.Common.{sym, ap, ◌∙◌, subst, true≢false}
 use Rattle.std.proofs.Math.Bool.{true, false}
 use native.Mathlib.Omega.{arith}
+use Rattle.std.proofs.lemmas.List.{get_or_default}
 use borrow.Author.Tests.{eq-eqb, ne_eqb}
 use Rattle.rows.specs.Kinds.{Identifier}
 use Rattle.rows.specs.Words.{no_word}
@@ -11,8 +12,7 @@ use Rattle.reader.specs.Nodes.{NodeKind, t_node, g_node, b_node, l_node, a_node,
 use Rattle.type_nodes.specs.Shapes.{NoNode, shape_of}
 use Rattle.type_nodes.specs.Nodes.{empty, next, shape, node_identifier, is_single_token}
 use Rattle.type_nodes.specs.Stands.{Stands, ends, here, Finds, below, token_of_first}
-use Rattle.type_nodes.specs.declared.nodes.Lookup.{Lookup}
-use Rattle.type_nodes.specs.declared.nodes.Lookup.TheVariants.{Node, Nothing}
+use Rattle.type_nodes.specs.declared.nodes.Node.{Node}
 
 -- The number of the first node's kind.
 unfoldable pub kind_number : Nodes → ℕ
@@ -86,16 +86,6 @@ module _ {tree kinds : List ℕ} where
   shape_none (ends e) h = refl
   shape_none (here k i x t s r) h = absurd (omega (arith, stands_count r))
 
-  -- the same nodes
-  pub same_count : {from to : ℕ} {x y : Nodes} → Stands tree kinds from to x → Stands tree kinds from to y → count x ≡ count y
-  same_count s t = omega (arith, stands_count s, stands_count t)
-
--- the same element, whatever stands past the end
-get_or_in : (l : List ℕ) (i d d' : ℕ) → i < length l → get_or l i d ≡ get_or l i d'
-get_or_in [] i d d' h = absurd (omega arith)
-get_or_in (a ∷ l) zero d d' h = refl
-get_or_in (a ∷ l) (suc i) d d' h = get_or_in l i d d' (omega arith)
-
 -- what code reads
 module _ {tree kinds : List ℕ} {at to : ℕ} {x : Nodes} (s : Stands tree kinds at to x) (h : at < to) where
   pub read_known : {t : ℕ} → t ≡ token_of tree at → t < length kinds
@@ -104,7 +94,7 @@ module _ {tree kinds : List ℕ} {at to : ℕ} {x : Nodes} (s : Stands tree kind
   pub read_token : {t : ℕ} → kind_of tree at ≡ 0 → t ≡ token_of tree at → get_or kinds t 0 ≡ shape kinds x
   read_token {t} z e =
       let f = first s h in
-      get_or_in kinds t 0 NoNode (read_known e) ∙ ap (λ (m : ℕ). get_or kinds m NoNode) (e ∙ f.token) ∙ sym (shape_token f z)
+      get_or_default kinds t 0 NoNode (read_known e) ∙ ap (λ (m : ℕ). get_or kinds m NoNode) (e ∙ f.token) ∙ sym (shape_token f z)
 
   pub read_group : (kind_of tree at ≡ 0 → ⊥) → NoNode + kind_of tree at ≡ shape kinds x
   read_group z = sym (shape_group (first s h) z)
@@ -114,9 +104,6 @@ module _ {tree kinds : List ℕ} {at to : ℕ} {x : Nodes} (s : Stands tree kind
 
   pub read_end : {e : ℕ} → e ≡ extent_of tree at → at + e ≡ suc (at + count (below x))
   read_end e = let f = first s h in omega (arith, e, f.extent)
-
-  pub read_fits : {e : ℕ} → e ≡ extent_of tree at → at + e ≤ to
-  read_fits e = let f = first s h in omega (arith, e, f.extent, f.fits)
 
 -- The number of each kind, and back.
 unfoldable kind_of_number : ℕ → NodeKind
@@ -154,11 +141,11 @@ module _ {tree kinds : List ℕ} where
 
 -- ---- what a lookup finds
 
-pub found_there : (kinds : List ℕ) (at : ℕ) (x : Nodes) {r : Lookup} {s t n : ℕ} → Finds kinds at r x → r ≡ Node s t n → Finds kinds at (Node s t n) x
-found_there kinds at x f e = subst (λ (l : Lookup). Finds kinds at l x) e f
+pub found_there : (kinds : List ℕ) (at : ℕ) (x : Nodes) {r : Option Node} {d : Node} → Finds kinds at r x → r ≡ Some d → Finds kinds at (Some d) x
+found_there kinds at x f e = subst (λ (o : Option Node). Finds kinds at o x) e f
 
-pub found_nothing : (kinds : List ℕ) (at : ℕ) (x : Nodes) {r : Lookup} → Finds kinds at r x → r ≡ Nothing → x ≡ none
-found_nothing kinds at x f e = subst (λ (l : Lookup). Finds kinds at l x) e f
+pub found_nothing : (kinds : List ℕ) (at : ℕ) (x : Nodes) {r : Option Node} → Finds kinds at r x → r ≡ None → x ≡ none
+found_nothing kinds at x f e = subst (λ (o : Option Node). Finds kinds at o x) e f
 
 identifier_of : (kinds words : List ℕ) (y : Nodes) → empty y ≡ false
     → node_identifier kinds words y ≡ if eqb (shape kinds y) Identifier then get_or words (token_of_first y) no_word else no_word
@@ -175,19 +162,19 @@ module _ {tree kinds : List ℕ} {at to : ℕ} {x : Nodes} (s : Stands tree kind
       started (ends p) h = absurd (true≢false h)
       started (here k i b t u r) h = omega (arith, stands_count r)
 
-  module _ {m t n : ℕ} (f : Finds kinds at (Node m t n) x) where
-    pub token_known : t < length kinds
+  module _ {d : Node} (f : Finds kinds at (Some d) x) where
+    pub token_known : d.token < length kinds
     token_known = omega (arith, f.2, (first s (there f.0)).known)
 
-    pub single_node : (kind : ℕ) → (eqb m kind && eqb n to) ≡ is_single_token kinds kind x
+    pub single_node : (kind : ℕ) → (eqb d.shape kind && eqb d.next to) ≡ is_single_token kinds kind x
     unfolding is_single_token
     single_node kind = rw (f.1, f.3, last_empty (first s (there f.0)).rest)
 
-    pub identifier_read : (words : List ℕ) → m ≡ Identifier → get_or words t 0 ≡ node_identifier kinds words x
-    identifier_read words e = rw f.2 (sym (identifier_of kinds words x f.0 ∙ rw (← f.1, eq-eqb m Identifier e)))
+    pub identifier_read : (words : List ℕ) → d.shape ≡ Identifier → get_or words d.token 0 ≡ node_identifier kinds words x
+    identifier_read words e = rw f.2 (sym (identifier_of kinds words x f.0 ∙ rw (← f.1, eq-eqb d.shape Identifier e)))
 
-    pub identifier_other : (words : List ℕ) → (m ≡ Identifier → ⊥) → no_word ≡ node_identifier kinds words x
-    identifier_other words e = sym (identifier_of kinds words x f.0 ∙ rw (← f.1, ne_eqb m Identifier e))
+    pub identifier_other : (words : List ℕ) → (d.shape ≡ Identifier → ⊥) → no_word ≡ node_identifier kinds words x
+    identifier_other words e = sym (identifier_of kinds words x f.0 ∙ rw (← f.1, ne_eqb d.shape Identifier e))
 
 pub single_none : (kinds : List ℕ) (kind : ℕ) {x : Nodes} → kind < NoNode → x ≡ none → false ≡ is_single_token kinds kind x
 unfolding is_single_token shape

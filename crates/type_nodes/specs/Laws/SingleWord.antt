@@ -5,11 +5,11 @@ use Rattle.std.proofs.Common.{sym, ◌∙◌, true≢false, arith, ltb-false, eq
 use mathlib.Core.List.{List, [], ◌∷◌}
 use Rattle.std.proofs.Math.Dec.{eqb-zero-suc, eqb-suc-zero, eqb-suc-suc}
 use Rattle.rows.specs.Notation.{◌is_one_of◌}
-use Rattle.rows.specs.Laws.Tests.{or_false}
+use Rattle.std.proofs.Math.Bool.{or-false}
 use Rattle.rows.specs.Words.{void, char, short, long, signed, unsigned, float, double}
 use Rattle.type_nodes.specs.Sets.{builtin_type_words, scalar_bases, is_c_builtin_type_word}
 use Rattle.type_nodes.specs.Combination.{times, has, once_more, none_seen, how_many, builtin_words, no_builtin_word, too_often, validate_c_builtin_combination, counted_words}
-use Rattle.type_nodes.specs.Laws.Tests.{and_left, and_right}
+use Rattle.std.proofs.lemmas.Bool.{and_parts}
 use Rattle.type_nodes.specs.Laws.Bounds.{all_pass, one_passes}
 
 -- ---- counts that agree on the builtin type words
@@ -37,13 +37,13 @@ module _ (a b : List ℕ) (same : Agree a b) where
   unfolding how_many all_pass
   how_many_agrees [] h = refl
   how_many_agrees (w ∷ ws) h =
-      rw (has_agrees w (and_left (is_c_builtin_type_word w) (all_pass is_c_builtin_type_word ws) h), how_many_agrees ws (and_right (is_c_builtin_type_word w) (all_pass is_c_builtin_type_word ws) h)) refl
+      rw (has_agrees w (and_parts (is_c_builtin_type_word w) (all_pass is_c_builtin_type_word ws) h).0, how_many_agrees ws (and_parts (is_c_builtin_type_word w) (all_pass is_c_builtin_type_word ws) h).1) refl
 
   too_often_agrees : (ws : List ℕ) → all_pass is_c_builtin_type_word ws ≡ true → too_often ws a ≡ too_often ws b
   unfolding too_often all_pass
   too_often_agrees [] h = refl
   too_often_agrees (w ∷ ws) h =
-      rw (same w (and_left (is_c_builtin_type_word w) (all_pass is_c_builtin_type_word ws) h), too_often_agrees ws (and_right (is_c_builtin_type_word w) (all_pass is_c_builtin_type_word ws) h)) refl
+      rw (same w (and_parts (is_c_builtin_type_word w) (all_pass is_c_builtin_type_word ws) h).0, too_often_agrees ws (and_parts (is_c_builtin_type_word w) (all_pass is_c_builtin_type_word ws) h).1) refl
 
   combination_agrees : validate_c_builtin_combination a ≡ validate_c_builtin_combination b
   unfolding validate_c_builtin_combination builtin_words is_c_builtin_type_word builtin_type_words scalar_bases all_pass
@@ -135,5 +135,5 @@ module _ (single none : Bool) (seen : List ℕ) (w : ℕ) (p : w < length seen) 
       record { word = one.word; builtin = one.builtin; agrees = other_once_more seen (once_more one.word none_seen) w p e one.agrees }
 
   pub single_once_more : (b : Bool) → b ≡ is_c_builtin_type_word w → Single ((b && none) || (not b && single)) (once_more w seen)
-  single_once_more true e = rw (or_false none) (first_one (sym e))
+  single_once_more true e = rw (or-false none) (first_one (sym e))
   single_once_more false e = still_one (sym e)

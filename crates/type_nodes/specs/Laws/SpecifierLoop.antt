@@ -8,7 +8,7 @@ use Rattle.std.proofs.Math.ListN.{length}
 use Rattle.std.proofs.Math.Dec.{eqb}
 use Rattle.std.proofs.lemmas.Bool.{not-false}
 use Rattle.rows.specs.Notation.{◌is_one_of◌}
-use Rattle.rows.specs.Laws.Tests.{and_false}
+use Rattle.std.proofs.Math.Bool.{and-false}
 use Rattle.rows.specs.Languages.{Cpp}
 use Rattle.rows.specs.Kinds.{Identifier, Scope}
 use Rattle.rows.specs.Words.{no_word}
@@ -103,8 +103,8 @@ module _ (lang : ℕ) (kinds words : List ℕ) where
         let w : ℕ = exact_word kinds words x in
         from_only
         (sym (at_identifier lang no_word (shape kinds x) w (shape kinds (next x)) (exact_word kinds words (next x)) at_first i)
-        ∙ sym (word_2 lang w (shape kinds (next x)) at_first (rw alone (and_false (w is_one_of parenthesis_words))) n))
-        ∙ rw (no_builtin_once_more none_seen w (counted_first w (builtin_counted w n)), n, and_false (no_builtin_word none_seen)) (one_alone w n)
+        ∙ sym (word_2 lang w (shape kinds (next x)) at_first (rw alone (and-false (w is_one_of parenthesis_words))) n))
+        ∙ rw (no_builtin_once_more none_seen w (counted_first w (builtin_counted w n)), n, and-false (no_builtin_word none_seen)) (one_alone w n)
 
     pub word_specified : (eqb (exact_word kinds words x) no_word || is_c_builtin_type_word (exact_word kinds words x)) ≡ true → validate_c_decl_specifiers lang kinds words x ≡ true
     unfolding validate_c_decl_specifiers

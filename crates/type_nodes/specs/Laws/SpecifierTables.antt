@@ -15,7 +15,7 @@ use Rattle.type_nodes.specs.Moves.{Move, stop, on, on_if}
 use Rattle.type_nodes.specs.Specifiers.{Specifiers, specifiers, specifiers_end, leading_global_scope, parenthesis_word, qualifier_word, elaborated_word, builtin_word, name_word, specifier_scope, specifier_list, specifier_node}
 use Rattle.type_nodes.specs.Combination.{counted_words, no_builtin_word}
 use Rattle.type_nodes.specs.RepresentedSpecifiers.{SpecifierMoves}
-use Rattle.type_nodes.specs.Laws.Tests.{and_both, and_left, and_right, neither_left, neither_right}
+use Rattle.std.proofs.lemmas.Bool.{and_from, and_parts, or_parts}
 use Rattle.type_nodes.specs.Laws.Bounds.{all_pass, one_passes, all_below, one_below}
 use Rattle.type_nodes.specs.declared.specifiers.SpecifierMove.{SpecifierMove}
 
@@ -54,8 +54,8 @@ module _ (lang w right : ℕ) (st : Specifiers) where
     unfolding specifier_node
     word_2 y =
         let a : (not (is_c_family_declarator_qualifier w) && not (w is_one_of elaborated_words)) ≡ true = builtin_apart w y in
-        let q : is_c_family_declarator_qualifier w ≡ false = not-true (is_c_family_declarator_qualifier w) (and_left (not (is_c_family_declarator_qualifier w)) (not (w is_one_of elaborated_words)) a) in
-        let r : (w is_one_of elaborated_words) ≡ false = not-true (w is_one_of elaborated_words) (and_right (not (is_c_family_declarator_qualifier w)) (not (w is_one_of elaborated_words)) a) in
+        let q : is_c_family_declarator_qualifier w ≡ false = not-true (is_c_family_declarator_qualifier w) (and_parts (not (is_c_family_declarator_qualifier w)) (not (w is_one_of elaborated_words)) a).0 in
+        let r : (w is_one_of elaborated_words) ≡ false = not-true (w is_one_of elaborated_words) (and_parts (not (is_c_family_declarator_qualifier w)) (not (w is_one_of elaborated_words)) a).1 in
         rw (n1, q, r, y)
 
     module _ (n2 : is_c_builtin_type_word w ≡ false) where
@@ -99,7 +99,7 @@ module _ (lang lw s w right second : ℕ) (st : Specifiers) where
     unfolding specifier_node ◌is_one_of◌
     at_group y =
         let g : (eqb s Parenthesized && lw is_one_of parenthesis_words) ≡ true = rw (n1, n2, n3) at y in
-        rw (eqb-true s Parenthesized (and_left _ _ g), and_right (eqb s Parenthesized) (lw is_one_of parenthesis_words) g)
+        rw (eqb-true s Parenthesized (and_parts _ _ g).0, (and_parts (eqb s Parenthesized) (lw is_one_of parenthesis_words) g).1)
 
     -- The three `break`.
     breaks : (eqb s Parenthesized && lw is_one_of parenthesis_words) ≡ false → stop (specifiers_end st) ≡ table
@@ -117,11 +117,11 @@ module _ (lang lw s w right second : ℕ) (st : Specifiers) where
   unfolding ◌is_one_of◌
   at_end y =
       let n : goes_on ≡ false = not-true goes_on y in
-      let shapes : (s is_one_of (Identifier ∷ Scope ∷ TemplateArguments ∷ [])) ≡ false = neither_left _ (eqb s Parenthesized && lw is_one_of parenthesis_words) n in
-      let others : (s is_one_of (Scope ∷ TemplateArguments ∷ [])) ≡ false = neither_right (eqb s Identifier) _ shapes in
-      let last : (s is_one_of (TemplateArguments ∷ [])) ≡ false = neither_right (eqb s Scope) _ others in
-      breaks (neither_left (eqb s Identifier) _ shapes) (neither_left (eqb s Scope) _ others) (neither_left (eqb s TemplateArguments) false last)
-      (neither_right (s is_one_of (Identifier ∷ Scope ∷ TemplateArguments ∷ [])) _ n)
+      let shapes : (s is_one_of (Identifier ∷ Scope ∷ TemplateArguments ∷ [])) ≡ false = (or_parts _ (eqb s Parenthesized && lw is_one_of parenthesis_words) n).0 in
+      let others : (s is_one_of (Scope ∷ TemplateArguments ∷ [])) ≡ false = (or_parts (eqb s Identifier) _ shapes).1 in
+      let last : (s is_one_of (TemplateArguments ∷ [])) ≡ false = (or_parts (eqb s Scope) _ others).1 in
+      breaks (or_parts (eqb s Identifier) _ shapes).0 (or_parts (eqb s Scope) _ others).0 (or_parts (eqb s TemplateArguments) false last).0
+      (or_parts (s is_one_of (Identifier ∷ Scope ∷ TemplateArguments ∷ [])) _ n).1
 
 -- The two nodes that the loop takes at once.
 module _ (lang lw s w right second : ℕ) (seen : List ℕ) (named elaborated bit_int scope : Bool) where
@@ -135,24 +135,24 @@ module _ (lang lw s w right second : ℕ) (seen : List ℕ) (named elaborated bi
   named_on : no_builtin_word seen ≡ true → (not named || scope || elaborated) ≡ true
       → name_word (specifiers seen named elaborated bit_int scope) ≡ on (specifiers seen true elaborated bit_int false)
   unfolding name_word on_if
-  named_on y z = ap (λ (ok : Bool). on_if ok (specifiers seen true elaborated bit_int false)) (and_both y z)
+  named_on y z = ap (λ (ok : Bool). on_if ok (specifiers seen true elaborated bit_int false)) (and_from _ _ y z)
 
   pub at_name : (no_builtin : Bool) → no_builtin ≡ no_builtin_word seen → (eqb s Identifier && eqb w no_word && no_builtin && (not named || scope || elaborated)) ≡ true
       → taken ≡ on (specifiers seen true elaborated bit_int false)
   at_name no_builtin k y =
-      let a : (eqb s Identifier && eqb w no_word && no_builtin) ≡ true = and_left _ (not named || scope || elaborated) y in
-      let b : (eqb s Identifier && eqb w no_word) ≡ true = and_left _ no_builtin a in
-      sym (at_a_name (eqb-true s Identifier (and_left _ (eqb w no_word) b)) (eqb-true w no_word (and_right (eqb s Identifier) _ b)))
-      ∙ named_on (sym k ∙ and_right (eqb s Identifier && eqb w no_word) no_builtin a) (and_right (eqb s Identifier && eqb w no_word && no_builtin) (not named || scope || elaborated) y)
+      let a : (eqb s Identifier && eqb w no_word && no_builtin) ≡ true = (and_parts _ (not named || scope || elaborated) y).0 in
+      let b : (eqb s Identifier && eqb w no_word) ≡ true = (and_parts _ no_builtin a).0 in
+      sym (at_a_name (eqb-true s Identifier (and_parts _ (eqb w no_word) b).0) (eqb-true w no_word (and_parts (eqb s Identifier) _ b).1))
+      ∙ named_on (sym k ∙ (and_parts (eqb s Identifier && eqb w no_word) no_builtin a).1) (and_parts (eqb s Identifier && eqb w no_word && no_builtin) (not named || scope || elaborated) y).1
 
   pub at_scope_after_name : (eqb s Scope && eqb lang Cpp && named && not scope) ≡ true → taken ≡ on (specifiers seen named elaborated bit_int true)
   unfolding specifier_node specifier_scope leading_global_scope on_if ◌is_one_of◌
   at_scope_after_name y =
-      let a : (eqb s Scope && eqb lang Cpp && named) ≡ true = and_left _ (not scope) y in
-      let b : (eqb s Scope && eqb lang Cpp) ≡ true = and_left _ named a in
+      let a : (eqb s Scope && eqb lang Cpp && named) ≡ true = (and_parts _ (not scope) y).0 in
+      let b : (eqb s Scope && eqb lang Cpp) ≡ true = (and_parts _ named a).0 in
       rw (
-        eqb-true s Scope (and_left _ (eqb lang Cpp) b),
-        and_right (eqb s Scope) (eqb lang Cpp) b,
-        and_right (eqb s Scope && eqb lang Cpp) named a,
-        not-true scope (and_right (eqb s Scope && eqb lang Cpp && named) (not scope) y),
+        eqb-true s Scope (and_parts _ (eqb lang Cpp) b).0,
+        (and_parts (eqb s Scope) (eqb lang Cpp) b).1,
+        (and_parts (eqb s Scope && eqb lang Cpp) named a).1,
+        not-true scope (and_parts (eqb s Scope && eqb lang Cpp && named) (not scope) y).1,
       )

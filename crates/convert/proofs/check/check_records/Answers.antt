@@ -19,20 +19,20 @@ pub returns-in_default : goal.returns-in_default
 returns-in_default c = check_malformed c.args.format _ c.loop-at.invariant (omega arith) c.if-count-eq-MOST_TOKENS.false (sym c.token_at-found.ensures ∙ c.in_default.is)
 
 pub span-span-requires : goal.span-span-requires
-span-span-requires c = let fit = formed_fits c.args.format _ _ _ _ (sym c.token_at-found.ensures ∙ c.in-Formed.is) in omega arith
+span-span-requires c = let fit = formed_fits c.args.format _ _ _ _ (sym c.token_at-found.ensures ∙ c.in-Some.is) in omega arith
 
 pub overflow_add-count : goal.overflow_add-count
 overflow_add-count c = omega (arith, c.loop-at.invariant.few, c.if-count-eq-MOST_TOKENS.false)
 
 pub overflow_add-at : goal.overflow_add-at
-overflow_add-at c = let fit = formed_fits c.args.format _ _ _ _ (sym c.token_at-found.ensures ∙ c.in-Formed.is) in omega arith
+overflow_add-at c = let fit = formed_fits c.args.format _ _ _ _ (sym c.token_at-found.ensures ∙ c.in-Some.is) in omega arith
 
 pub loop-at-smaller : goal.loop-at-smaller
-loop-at-smaller c = let fit = formed_fits c.args.format _ _ _ _ (sym c.token_at-found.ensures ∙ c.in-Formed.is) in omega arith
+loop-at-smaller c = let fit = formed_fits c.args.format _ _ _ _ (sym c.token_at-found.ensures ∙ c.in-Some.is) in omega arith
 
 pub loop-at-preserved : goal.loop-at-preserved
 unfolding span_at
-loop-at-preserved c = rw c.span-span.ensures (check_token c.args.format _ c.loop-at.invariant (omega arith) c.if-count-eq-MOST_TOKENS.false _ _ (sym c.token_at-found.ensures ∙ c.in-Formed.is))
+loop-at-preserved c = rw c.span-span.ensures (check_token c.args.format _ c.loop-at.invariant (omega arith) c.if-count-eq-MOST_TOKENS.false _ _ (sym c.token_at-found.ensures ∙ c.in-Some.is))
 
 pub returns : goal.returns
 returns c = check_ends c.args.format _ c.loop-at.invariant (omega arith)

@@ -3,18 +3,18 @@ use mathlib.Core.Path.{refl}
 use Rattle.type_name.specs.AnswerNumbers.{answer_numbers, answer_code}
 use Rattle.exports.proofs.numbers.put_answer.Goals as goal
 
-pub returns-in-Accepted-clause-returned : goal.returns-in-Accepted-clause-returned
+pub returns-in-Ok-clause-returned : goal.returns-in-Ok-clause-returned
 unfolding answer_numbers answer_code
-returns-in-Accepted-clause-returned c = rw c.in-Accepted.is refl
+returns-in-Ok-clause-returned c = rw c.in-Ok.is refl
 
-pub returns-in-Accepted-clause-written : goal.returns-in-Accepted-clause-written
+pub returns-in-Ok-clause-written : goal.returns-in-Ok-clause-written
 unfolding answer_numbers answer_code
-returns-in-Accepted-clause-written c = rw c.in-Accepted.is (c.put_front.ensures)
+returns-in-Ok-clause-written c = rw c.in-Ok.is (c.put_front.ensures)
 
-pub returns-in-Refused-clause-returned : goal.returns-in-Refused-clause-returned
+pub returns-in-Err-clause-returned : goal.returns-in-Err-clause-returned
 unfolding answer_numbers answer_code
-returns-in-Refused-clause-returned c = rw (c.in-Refused.is, c.refusal_of-refusal.ensures) refl
+returns-in-Err-clause-returned c = rw (c.in-Err.is, c.refusal_of-refusal.ensures) refl
 
-pub returns-in-Refused-clause-written : goal.returns-in-Refused-clause-written
+pub returns-in-Err-clause-written : goal.returns-in-Err-clause-written
 unfolding answer_numbers answer_code
-returns-in-Refused-clause-written c = rw (c.in-Refused.is, ← c.refusal_of-refusal.ensures) (c.put_front-in-Refused.ensures)
+returns-in-Err-clause-written c = rw (c.in-Err.is, ← c.refusal_of-refusal.ensures) (c.put_front-in-Err.ensures)

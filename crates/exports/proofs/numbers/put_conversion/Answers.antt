@@ -3,18 +3,18 @@ use mathlib.Core.Path.{refl}
 use Rattle.convert.specs.AnswerNumbers.{convert_numbers, convert_code}
 use Rattle.exports.proofs.numbers.put_conversion.Goals as goal
 
-pub returns-in-Converted-clause-returned : goal.returns-in-Converted-clause-returned
+pub returns-in-Ok-clause-returned : goal.returns-in-Ok-clause-returned
 unfolding convert_numbers convert_code
-returns-in-Converted-clause-returned c = rw c.in-Converted.is refl
+returns-in-Ok-clause-returned c = rw c.in-Ok.is refl
 
-pub returns-in-Converted-clause-written : goal.returns-in-Converted-clause-written
+pub returns-in-Ok-clause-written : goal.returns-in-Ok-clause-written
 unfolding convert_numbers convert_code
-returns-in-Converted-clause-written c = rw c.in-Converted.is (c.put_front.ensures)
+returns-in-Ok-clause-written c = rw c.in-Ok.is (c.put_front.ensures)
 
-pub returns-in-Refused-clause-returned : goal.returns-in-Refused-clause-returned
+pub returns-in-Err-clause-returned : goal.returns-in-Err-clause-returned
 unfolding convert_numbers convert_code
-returns-in-Refused-clause-returned c = rw c.in-Refused.is (c.put_answer.ensures.returned)
+returns-in-Err-clause-returned c = rw c.in-Err.is (rw c.from.ensures at c.put_answer.ensures.returned)
 
-pub returns-in-Refused-clause-written : goal.returns-in-Refused-clause-written
+pub returns-in-Err-clause-written : goal.returns-in-Err-clause-written
 unfolding convert_numbers convert_code
-returns-in-Refused-clause-written c = rw c.in-Refused.is (c.put_answer.ensures.written)
+returns-in-Err-clause-written c = rw c.in-Err.is (rw c.from.ensures at c.put_answer.ensures.written)

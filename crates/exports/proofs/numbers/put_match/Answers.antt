@@ -3,18 +3,18 @@ use mathlib.Core.Path.{refl}
 use Rattle.rule_answers.specs.AnswerNumbers.{match_numbers, match_code}
 use Rattle.exports.proofs.numbers.put_match.Goals as goal
 
-pub returns-in-Matched-clause-returned : goal.returns-in-Matched-clause-returned
+pub returns-in-Ok-clause-returned : goal.returns-in-Ok-clause-returned
 unfolding match_numbers match_code
-returns-in-Matched-clause-returned c = rw c.in-Matched.is refl
+returns-in-Ok-clause-returned c = rw c.in-Ok.is refl
 
-pub returns-in-Matched-clause-written : goal.returns-in-Matched-clause-written
+pub returns-in-Ok-clause-written : goal.returns-in-Ok-clause-written
 unfolding match_numbers match_code
-returns-in-Matched-clause-written c = rw c.in-Matched.is (c.put_front.ensures)
+returns-in-Ok-clause-written c = rw c.in-Ok.is (c.put_front.ensures)
 
-pub returns-in-Refused-clause-returned : goal.returns-in-Refused-clause-returned
+pub returns-in-Err-clause-returned : goal.returns-in-Err-clause-returned
 unfolding match_numbers match_code
-returns-in-Refused-clause-returned c = rw c.in-Refused.is (c.put_answer.ensures.returned)
+returns-in-Err-clause-returned c = rw c.in-Err.is (c.put_answer.ensures.returned)
 
-pub returns-in-Refused-clause-written : goal.returns-in-Refused-clause-written
+pub returns-in-Err-clause-written : goal.returns-in-Err-clause-written
 unfolding match_numbers match_code
-returns-in-Refused-clause-written c = rw c.in-Refused.is (c.put_answer.ensures.written)
+returns-in-Err-clause-written c = rw c.in-Err.is (c.put_answer.ensures.written)

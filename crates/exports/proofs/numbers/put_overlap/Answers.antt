@@ -3,26 +3,26 @@ use mathlib.Core.Path.{refl}
 use Rattle.rule_answers.specs.AnswerNumbers.{overlap_numbers, overlap_code}
 use Rattle.exports.proofs.numbers.put_overlap.Goals as goal
 
-pub returns-in-Overlap-clause-returned : goal.returns-in-Overlap-clause-returned
+pub returns-in-Ok-Some-clause-returned : goal.returns-in-Ok-Some-clause-returned
 unfolding overlap_numbers overlap_code
-returns-in-Overlap-clause-returned c = rw c.in-Overlap.is refl
+returns-in-Ok-Some-clause-returned c = rw (c.in-Ok-Some.is, rw c.in-Ok-Some.is at c.in-Ok-Some.field-0-is) refl
 
-pub returns-in-Overlap-clause-written : goal.returns-in-Overlap-clause-written
+pub returns-in-Ok-Some-clause-written : goal.returns-in-Ok-Some-clause-written
 unfolding overlap_numbers overlap_code
-returns-in-Overlap-clause-written c = rw c.in-Overlap.is (c.put_front.ensures)
+returns-in-Ok-Some-clause-written c = rw (c.in-Ok-Some.is, rw c.in-Ok-Some.is at c.in-Ok-Some.field-0-is) (c.put_front.ensures)
 
-pub returns-in-NoFurther-clause-returned : goal.returns-in-NoFurther-clause-returned
+pub returns-in-Ok-None-clause-returned : goal.returns-in-Ok-None-clause-returned
 unfolding overlap_numbers overlap_code
-returns-in-NoFurther-clause-returned c = rw c.in-NoFurther.is refl
+returns-in-Ok-None-clause-returned c = rw (c.in-Ok-None.is, rw c.in-Ok-None.is at c.in-Ok-None.field-0-is) refl
 
-pub returns-in-NoFurther-clause-written : goal.returns-in-NoFurther-clause-written
+pub returns-in-Ok-None-clause-written : goal.returns-in-Ok-None-clause-written
 unfolding overlap_numbers overlap_code
-returns-in-NoFurther-clause-written c = rw c.in-NoFurther.is (c.put_front-in-NoFurther.ensures)
+returns-in-Ok-None-clause-written c = rw (c.in-Ok-None.is, rw c.in-Ok-None.is at c.in-Ok-None.field-0-is) (c.put_front-in-Ok-None.ensures)
 
-pub returns-in-Refused-clause-returned : goal.returns-in-Refused-clause-returned
+pub returns-in-Err-clause-returned : goal.returns-in-Err-clause-returned
 unfolding overlap_numbers overlap_code
-returns-in-Refused-clause-returned c = rw c.in-Refused.is (c.put_answer.ensures.returned)
+returns-in-Err-clause-returned c = rw c.in-Err.is (rw c.from.ensures at c.put_answer.ensures.returned)
 
-pub returns-in-Refused-clause-written : goal.returns-in-Refused-clause-written
+pub returns-in-Err-clause-written : goal.returns-in-Err-clause-written
 unfolding overlap_numbers overlap_code
-returns-in-Refused-clause-written c = rw c.in-Refused.is (c.put_answer.ensures.written)
+returns-in-Err-clause-written c = rw c.in-Err.is (rw c.from.ensures at c.put_answer.ensures.written)

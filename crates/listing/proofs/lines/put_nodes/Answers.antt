@@ -6,11 +6,11 @@ use Rattle.listing.proofs.lines.put_nodes.Goals as goal
 pub loop-node-init : goal.loop-node-init
 loop-node-init c = listing_start
 
-pub put_node-end-requires : goal.put_node-end-requires
-put_node-end-requires c = (listing_room c.loop-node.invariant (omega arith) (omega arith), omega arith)
+pub put_node-requires : goal.put_node-requires
+put_node-requires c = (listing_room c.loop-node.invariant (omega arith) c.requires.0, omega arith)
 
 pub loop-node-preserved : goal.loop-node-preserved
-loop-node-preserved c = listing_on c.loop-node.invariant (omega arith) c.put_node-end.ensures c.put_node-end.auto.text
+loop-node-preserved c = listing_on c.loop-node.invariant (omega arith) c.put_node.ensures
 
 pub returns : goal.returns
 returns c = listing_end c.loop-node.invariant (omega arith)

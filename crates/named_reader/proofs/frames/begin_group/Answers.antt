@@ -14,8 +14,5 @@ returns-then-reader-ge-MAX_NESTING_DEPTH c = group_deep c.args.delimiter c.args.
 pub append_node-requires : goal.append_node-requires
 append_node-requires c = (c.requires.1, c.requires.2, omega (arith, inner_begun c.requires.0.stands, c.requires.1.small))
 
-pub overflow_add-nodes : goal.overflow_add-nodes
-overflow_add-nodes c = omega (arith, c.requires.1.small)
-
 pub returns : goal.returns
 returns c = group_done c.args.delimiter c.args.at _ _ _ c.if-reader-eq0.false refl (omega arith) c.group_kind.ensures refl c.append_node.ensures.front

@@ -15,9 +15,6 @@ returns-then-reader-ge-MAX_NESTING_DEPTH c = list_deep c.args.at _ c.if-reader-e
 pub append_node-requires : goal.append_node-requires
 append_node-requires c = (record { room = omega (arith, c.requires.1.room); small = omega (arith, c.requires.1.small) }, omega (arith, c.requires.2), omega (arith, inner_begun c.requires.0.stands, c.requires.1.small))
 
-pub append_node-requires-2 : goal.append_node-requires-2
-append_node-requires-2 c = (record { room = omega (arith, c.requires.1.room, c.append_node.auto.tree); small = omega (arith, c.requires.1.small) }, c.requires.2, omega (arith, c.requires.1.small))
-
 pub returns : goal.returns
 unfolding number
 returns c = list_done _ c.args.at _ _ _ c.if-reader-eq0.false refl (omega arith) refl refl c.append_node.ensures.front c.append_node-2.ensures.front

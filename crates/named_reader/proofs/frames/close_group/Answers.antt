@@ -16,8 +16,5 @@ overflow_sub-nodes c = omega (arith, group_placed c.requires.0)
 pub put_extent-requires : goal.put_extent-requires
 put_extent-requires c = (omega (arith, group_placed c.requires.0), omega (arith, c.requires.1))
 
-pub overflow_sub-result : goal.overflow_sub-result
-overflow_sub-result c = omega (arith, group_placed c.requires.0)
-
 pub returns : goal.returns
 returns c = group_shut c.requires.0 _ _ _ _ refl c.node_extent-outer.ensures.value refl refl c.put_extent.ensures

@@ -25,8 +25,5 @@ overflow_sub-nodes-2 c = omega (arith, list_placed c.requires.0, c.node_extent-l
 pub put_extent-requires-2 : goal.put_extent-requires-2
 put_extent-requires-2 c = (omega (arith, list_placed c.requires.0, c.node_extent-list.ensures.value, c.put_extent.auto.tree), omega (arith, c.requires.1))
 
-pub overflow_sub-result : goal.overflow_sub-result
-overflow_sub-result c = omega (arith, list_placed c.requires.0)
-
 pub returns : goal.returns
 returns c = list_closed c.requires.0 _ _ _ refl c.node_extent-list.ensures.value _ _ _ refl refl refl c.node_extent-outer.ensures.value c.put_extent.ensures c.put_extent-2.ensures

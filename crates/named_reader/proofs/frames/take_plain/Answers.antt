@@ -1,5 +1,4 @@
 -- `take_plain` meets its contract. Assumes nothing.
-use native.Mathlib.Omega.{arith}
 use mathlib.Core.Path.{refl}
 use Rattle.reader.specs.Nodes.{number}
 use Rattle.named_reader.specs.Laws.Begun.{plain_spent, plain_done}
@@ -7,9 +6,6 @@ use Rattle.named_reader.proofs.frames.take_plain.Goals as goal
 
 pub returns-then-reader-eq0 : goal.returns-then-reader-eq0
 returns-then-reader-eq0 c = plain_spent c.args.at c.if-reader-eq0.true
-
-pub append_node-requires : goal.append_node-requires
-append_node-requires c = (c.requires.1, c.requires.2, omega arith)
 
 pub returns : goal.returns
 unfolding number

@@ -1,10 +1,6 @@
 -- `at_comma` meets its contract. Assumes nothing.
-use native.Mathlib.Omega.{arith}
 use Rattle.named_reader.specs.Laws.AtToken.{held_list, in_list_is, comma_none, comma_empty, comma_ends}
 use Rattle.named_reader.proofs.tokens.at_comma.Goals as goal
-
-pub take_plain-requires : goal.take_plain-requires
-take_plain-requires c = (c.requires.0, c.requires.1, omega (arith, c.requires.2))
 
 pub returns-then-not-in_list : goal.returns-then-not-in_list
 returns-then-not-in_list c = comma_none c.args.at c.if-not-in_list.true c.in_list.ensures c.take_plain.ensures

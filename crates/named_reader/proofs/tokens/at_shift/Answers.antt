@@ -12,9 +12,6 @@ returns-then-reader c = shift_empty c.args.at c.if-not-in_list.false c.in_list.e
 pub close_list-outer-requires : goal.close_list-outer-requires
 close_list-outer-requires c = (held_list c.requires.0 (in_list_is c.if-not-in_list.false c.in_list.ensures), omega (arith, c.requires.1.small))
 
-pub in_list-requires-2 : goal.in_list-requires-2
-in_list-requires-2 c = moves_held c.requires.0 c.close_list-outer.ensures
-
 pub returns-then-not-in_list-2 : goal.returns-then-not-in_list-2
 returns-then-not-in_list-2 c = shift_alone c.args.at c.if-not-in_list.false c.in_list.ensures c.if-reader.false c.close_list-outer.ensures c.if-not-in_list-2.true c.in_list-2.ensures
 

@@ -1,29 +1,16 @@
 -- `take_token` meets its contract. Assumes nothing.
-use native.Mathlib.Omega.{arith}
 use Rattle.named_reader.specs.Laws.AtToken.{due_same}
 use Rattle.named_reader.specs.Laws.Tables.{is_left_paren, is_left_bracket, is_right_paren, is_right_bracket, is_no_bracket}
 use Rattle.named_reader.proofs.tokens.take_token.Goals as goal
 
-pub begin_group-requires : goal.begin_group-requires
-begin_group-requires c = (c.requires.0, record { room = omega (arith, c.requires.1.room); small = omega (arith, c.requires.1.small) }, omega (arith, c.requires.2))
-
 pub returns-then-kind-eq-LEFT_PAREN : goal.returns-then-kind-eq-LEFT_PAREN
 returns-then-kind-eq-LEFT_PAREN c = due_same c.begin_group.ensures (λ s st. is_left_paren _ _ _ s c.if-kind-eq-LEFT_PAREN.true)
-
-pub begin_group-requires-then-kind-eq-LEFT_BRACKET : goal.begin_group-requires-then-kind-eq-LEFT_BRACKET
-begin_group-requires-then-kind-eq-LEFT_BRACKET c = (c.requires.0, record { room = omega (arith, c.requires.1.room); small = omega (arith, c.requires.1.small) }, omega (arith, c.requires.2))
 
 pub returns-then-kind-eq-LEFT_BRACKET : goal.returns-then-kind-eq-LEFT_BRACKET
 returns-then-kind-eq-LEFT_BRACKET c = due_same c.begin_group-then-kind-eq-LEFT_BRACKET.ensures (λ s st. is_left_bracket _ _ _ s c.if-kind-eq-LEFT_BRACKET.true)
 
-pub at_closer-requires : goal.at_closer-requires
-at_closer-requires c = (c.requires.0, record { room = omega (arith, c.requires.1.room); small = omega (arith, c.requires.1.small) })
-
 pub returns-then-kind-eq-RIGHT_PAREN : goal.returns-then-kind-eq-RIGHT_PAREN
 returns-then-kind-eq-RIGHT_PAREN c = due_same c.at_closer.ensures (λ s st. is_right_paren _ _ _ s c.if-kind-eq-RIGHT_PAREN.true)
-
-pub at_closer-requires-then-kind-eq-RIGHT_BRACKET : goal.at_closer-requires-then-kind-eq-RIGHT_BRACKET
-at_closer-requires-then-kind-eq-RIGHT_BRACKET c = (c.requires.0, record { room = omega (arith, c.requires.1.room); small = omega (arith, c.requires.1.small) })
 
 pub returns-then-kind-eq-RIGHT_BRACKET : goal.returns-then-kind-eq-RIGHT_BRACKET
 returns-then-kind-eq-RIGHT_BRACKET c = due_same c.at_closer-then-kind-eq-RIGHT_BRACKET.ensures (λ s st. is_right_bracket _ _ _ s c.if-kind-eq-RIGHT_BRACKET.true)

@@ -5,14 +5,8 @@ use borrow.Author.Tests.{not-true, not-false}
 use Rattle.prescan.specs.Laws.RowEnd.{open_bracket, open_angle, no_identifier, good_boundary, bad_boundary, boundary_test}
 use Rattle.prescan.proofs.boundary.check_row_end.Goals as goal
 
-pub bounds-stack-depth : goal.bounds-stack-depth
-bounds-stack-depth c = omega (arith, c.requires.0.brackets, c.requires.0.room)
-
-pub bounds-kinds-index : goal.bounds-kinds-index
-bounds-kinds-index c = omega (arith, c.requires.0.tokens (c.args.s.depth - 1) (omega arith), c.index.ensures)
-
 pub returns-then-depth-gt0 : goal.returns-then-depth-gt0
-returns-then-depth-gt0 c = record { same = open_bracket _ _ _ _ (c.args.s.depth - 1) (omega arith) _ (rw c.index.ensures at c.delimiter-open.ensures) }
+returns-then-depth-gt0 c = record { same = open_bracket _ _ _ _ (c.args.s.depth - 1) (omega arith) _ c.delimiter-open.ensures }
 
 pub returns-then-s-gt0 : goal.returns-then-s-gt0
 returns-then-s-gt0 c = record { same = open_angle _ _ _ _ (omega arith) c.if-s-gt0.true }

@@ -1,12 +1,9 @@
 -- `group_step` meets its contract. Assumes nothing.
-use Rattle.reader.specs.Laws.TableWays.{row_plans, round_plans, square_plans}
+use Rattle.reader.specs.Laws.TableWays.{round_plans, square_plans}
 use Rattle.reader.proofs.tables.group_step.Goals as goal
 
-pub returns-in_default : goal.returns-in_default
-returns-in_default c = row_plans c.in_default.is c.row_step.ensures
+pub returns-in-Some-Parenthesis : goal.returns-in-Some-Parenthesis
+returns-in-Some-Parenthesis c = round_plans c.in-Some-Parenthesis.is (rw c.in-Some-Parenthesis.is at c.in-Some-Parenthesis.field-0-is) c.bracket_step.ensures
 
-pub returns-in-Parenthesis : goal.returns-in-Parenthesis
-returns-in-Parenthesis c = round_plans c.in-Opened.is c.in-Parenthesis.is c.bracket_step.ensures
-
-pub returns-in-Bracket : goal.returns-in-Bracket
-returns-in-Bracket c = square_plans c.in-Opened.is c.in-Bracket.is c.bracket_step-in-Bracket.ensures
+pub returns-in-Some-Bracket : goal.returns-in-Some-Bracket
+returns-in-Some-Bracket c = square_plans c.in-Some-Bracket.is (rw c.in-Some-Bracket.is at c.in-Some-Bracket.field-0-is) c.bracket_step-in-Some-Bracket.ensures

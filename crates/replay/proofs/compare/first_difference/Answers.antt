@@ -1,5 +1,7 @@
 -- `first_difference` meets its contract. Assumes nothing.
+use mathlib.Core.Path.{◌≡◌, ◌∙◌}
 use native.Mathlib.Omega.{arith}
+use lib.ListN.{length}
 use Rattle.replay.specs.Laws.Comparing.{comparing_start, comparing_on, comparing_found, comparing_end}
 use Rattle.replay.proofs.compare.first_difference.Goals as goal
 
@@ -13,4 +15,4 @@ pub loop-at-preserved : goal.loop-at-preserved
 loop-at-preserved c = comparing_on _ _ c.loop-at.invariant (omega arith) (omega arith) c.if-expected-at.false
 
 pub returns : goal.returns
-returns c = record { value = comparing_end _ _ c.loop-at.invariant (omega arith); within = omega arith }
+returns c = let whole : length c.args.expected.now ≡ c.loop-at.at = omega (arith, c.loop-at.invariant.within) in record { value = whole ∙ comparing_end _ _ c.loop-at.invariant (omega arith); within = omega arith }

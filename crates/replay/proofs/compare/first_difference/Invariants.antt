@@ -1,11 +1,6 @@
 -- `first_difference` meets its contract. Assumes nothing.
-use Prim.Native.Nat.{◌-◌}
-use lib.ListN.{length}
 use Rattle.replay.specs.Laws.Comparing.{Comparing}
 use Rattle.replay.proofs.compare.first_difference.Given as goal
 
 abbrev pub invariant-loop-at : goal.invariant-loop-at
 invariant-loop-at l = Comparing l.expected l.given l.at
-
-abbrev pub decreases-loop-at : goal.decreases-loop-at
-decreases-loop-at l = length l.expected - l.at

@@ -1,14 +1,14 @@
 -- `put_values` meets its contract. Assumes nothing.
 use native.Mathlib.Omega.{arith}
 use Rattle.rows.specs.Words.{bytes}
-use Rattle.text.specs.Laws.Appending.{appended_then}
+use Rattle.text.specs.Laws.Appending.{puts_then}
 use Rattle.replay.specs.Report.{values_text}
 use Rattle.replay.specs.Laws.Reporting.{labelled_long}
 use Rattle.replay.proofs.report.put_values.Goals as goal
 
-pub put_labelled-after_given-requires : goal.put_labelled-after_given-requires
+pub put_labelled-requires-2 : goal.put_labelled-requires-2
 unfolding bytes
-put_labelled-after_given-requires c = omega (arith, labelled_long (bytes ": expected ") c.args.expected)
+put_labelled-requires-2 c = omega (arith, labelled_long (bytes ": expected ") c.args.expected)
 
 pub put_bytes-requires : goal.put_bytes-requires
 unfolding bytes
@@ -16,4 +16,4 @@ put_bytes-requires c = omega (arith, labelled_long (bytes ": expected ") c.args.
 
 pub returns : goal.returns
 unfolding values_text
-returns c = appended_then (appended_then c.put_labelled-after_expected.ensures c.put_labelled-after_given.ensures) c.put_bytes.ensures
+returns c = puts_then (puts_then c.put_labelled.ensures c.put_labelled-2.ensures) c.put_bytes.ensures

@@ -3,5 +3,5 @@ use native.Mathlib.Omega.{arith}
 use Rattle.rows.specs.Laws.Bytes.{four_bytes}
 use Rattle.rows.proofs.bytes.four_bytes.Goals as goal
 
-pub returns : goal.returns
-returns c = omega (arith, four_bytes c.args.file.now c.args.at)
+pub returns-clause-value : goal.returns-clause-value
+returns-clause-value c = omega (arith, four_bytes c.args.file.now c.args.at)

@@ -3,5 +3,5 @@ use native.Mathlib.Omega.{arith}
 use Rattle.rows.specs.Laws.Bytes.{two_bytes}
 use Rattle.rows.proofs.bytes.two_bytes.Goals as goal
 
-pub returns : goal.returns
-returns c = omega (arith, two_bytes c.args.file.now c.args.at)
+pub returns-clause-value : goal.returns-clause-value
+returns-clause-value c = omega (arith, two_bytes c.args.file.now c.args.at)

@@ -29,4 +29,4 @@ returns-in_default c = simp (head, head_formed, le-ltb _ _ c.if-format-file.fals
 
 pub returns : goal.returns
 unfolding head head_formed head_with
-returns c = simp (head, head_formed, le-ltb _ _ c.if-format-file.false, le-leb _ _ c.if-file-lt-HEAD_LENGTH.false, eq-eqb _ _ (rw c.two_bytes.ensures.value at c.if-two_bytes-ne-HEAD_LENGTH.false), eq-eqb _ _ (rw c.two_bytes-2.ensures.value at c.if-two_bytes-format.false), le-leb _ _ c.if-format-flag.false, ← c.meant_standard-found.ensures, c.in-Means.is, c.four_bytes-allowance.ensures.value, head_with)
+returns c = simp (head, head_formed, le-ltb _ _ c.if-format-file.false, le-leb _ _ c.if-file-lt-HEAD_LENGTH.false, eq-eqb _ _ (rw c.two_bytes.ensures.value at c.if-two_bytes-ne-HEAD_LENGTH.false), eq-eqb _ _ (rw c.two_bytes-2.ensures.value at c.if-two_bytes-format.false), le-leb _ _ c.if-format-flag.false, ← c.meant_standard-found.ensures, c.in-Some.is, c.four_bytes-allowance.ensures.value, head_with)

@@ -33,22 +33,22 @@ pub returns-in_default : goal.returns-in_default
 returns-in_default c = record { answered = loop_malformed c.loop-at.invariant (omega arith) c.if-count-most.false (sym c.token_at-found.ensures ∙ c.in_default.is) }
 
 pub overflow_add-word : goal.overflow_add-word
-overflow_add-word c = let fit = formed_fits c.args.format _ _ _ _ (sym c.token_at-found.ensures ∙ c.in-Formed.is) in omega (arith, c.token_length-plain.ensures.value)
+overflow_add-word c = let fit = formed_fits c.args.format _ _ _ _ (sym c.token_at-found.ensures ∙ c.in-Some.is) in omega (arith, c.token_length-plain.ensures.value)
 
 pub overflow_add-next : goal.overflow_add-next
-overflow_add-next c = let fit = formed_fits c.args.format _ _ _ _ (sym c.token_at-found.ensures ∙ c.in-Formed.is) in omega (arith, c.token_length-plain.ensures.value)
+overflow_add-next c = let fit = formed_fits c.args.format _ _ _ _ (sym c.token_at-found.ensures ∙ c.in-Some.is) in omega (arith, c.token_length-plain.ensures.value)
 
 pub bounds-kinds-count : goal.bounds-kinds-count
 bounds-kinds-count c = omega (arith, c.loop-at.invariant.kinds_so_far.long, c.requires.for_kinds, c.loop-at.invariant.few, c.if-count-most.false)
 
 pub slice_bounds-number_of_word-count : goal.slice_bounds-number_of_word-count
-slice_bounds-number_of_word-count c = let fit = formed_fits c.args.format _ _ _ _ (sym c.token_at-found.ensures ∙ c.in-Formed.is) in omega (arith, c.token_length-plain.ensures.value)
+slice_bounds-number_of_word-count c = let fit = formed_fits c.args.format _ _ _ _ (sym c.token_at-found.ensures ∙ c.in-Some.is) in omega (arith, c.token_length-plain.ensures.value)
 
 pub slice_bounds-number_of_word-start : goal.slice_bounds-number_of_word-start
-slice_bounds-number_of_word-start c = let fit = formed_fits c.args.format _ _ _ _ (sym c.token_at-found.ensures ∙ c.in-Formed.is) in omega (arith, c.token_length-plain.ensures.value)
+slice_bounds-number_of_word-start c = let fit = formed_fits c.args.format _ _ _ _ (sym c.token_at-found.ensures ∙ c.in-Some.is) in omega (arith, c.token_length-plain.ensures.value)
 
 pub slice_bounds-number_of_word-end : goal.slice_bounds-number_of_word-end
-slice_bounds-number_of_word-end c = let fit = formed_fits c.args.format _ _ _ _ (sym c.token_at-found.ensures ∙ c.in-Formed.is) in omega (arith, c.token_length-plain.ensures.value)
+slice_bounds-number_of_word-end c = let fit = formed_fits c.args.format _ _ _ _ (sym c.token_at-found.ensures ∙ c.in-Some.is) in omega (arith, c.token_length-plain.ensures.value)
 
 pub bounds-words-count : goal.bounds-words-count
 bounds-words-count c = omega (arith, c.loop-at.invariant.words_so_far.long, c.requires.for_words, c.loop-at.invariant.few, c.if-count-most.false)
@@ -66,10 +66,10 @@ pub overflow_add-count : goal.overflow_add-count
 overflow_add-count c = omega (arith, c.loop-at.invariant.few, c.if-count-most.false)
 
 pub loop-at-smaller : goal.loop-at-smaller
-loop-at-smaller c = let fit = formed_fits c.args.format _ _ _ _ (sym c.token_at-found.ensures ∙ c.in-Formed.is) in omega (arith, c.token_length-plain.ensures.value)
+loop-at-smaller c = let fit = formed_fits c.args.format _ _ _ _ (sym c.token_at-found.ensures ∙ c.in-Some.is) in omega (arith, c.token_length-plain.ensures.value)
 
 pub loop-at-preserved : goal.loop-at-preserved
-loop-at-preserved c = loop_token c.loop-at.invariant c.requires (omega arith) c.if-count-most.false _ _ (sym c.token_at-found.ensures ∙ c.in-Formed.is) _ (rw c.token_length-plain.ensures.value at c.number_of_word.ensures)
+loop-at-preserved c = loop_token c.loop-at.invariant c.requires (omega arith) c.if-count-most.false _ _ (sym c.token_at-found.ensures ∙ c.in-Some.is) _ (rw c.token_length-plain.ensures.value at c.number_of_word.ensures)
 
 pub shape_of-kinds : goal.shape_of-kinds
 shape_of-kinds c = c.loop-at.invariant.kinds_so_far.long

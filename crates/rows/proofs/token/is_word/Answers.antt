@@ -9,13 +9,13 @@ pub returns-then-size-lt4 : goal.returns-then-size-lt4
 returns-then-size-lt4 c = c.all_fit.ensures
 
 pub returns-then-size-lt8 : goal.returns-then-size-lt8
-returns-then-size-lt8 c = rw (c.four_fit.ensures, c.four_fit-then-size-lt8.ensures) (groups_cover c.args.word.now 4 4 (omega arith) (omega arith))
+returns-then-size-lt8 c = rw (c.all_fit-then-size-lt8.ensures, c.all_fit-then-size-lt8-2.ensures) (groups_cover c.args.word.now 4 4 (omega arith) (omega arith))
 
 pub returns-then-size-le16 : goal.returns-then-size-le16
-returns-then-size-le16 c = rw (c.eight_fit.ensures, c.eight_fit-then-size-le16.ensures) (groups_cover c.args.word.now 8 8 (omega arith) (omega arith))
+returns-then-size-le16 c = rw (c.all_fit-then-size-le16.ensures, c.all_fit-then-size-le16-2.ensures) (groups_cover c.args.word.now 8 8 (omega arith) (omega arith))
 
 pub slice_bounds-all_fit-end : goal.slice_bounds-all_fit-end
 slice_bounds-all_fit-end c = simp length-take (omega arith)
 
 pub returns : goal.returns
-returns c = rw (c.all_fit-2.ensures, c.eight_fit-2.ensures) (groups_cover c.args.word.now (length c.args.word.now - length c.args.word.now % 8) 8 (omega arith) (omega arith))
+returns c = rw (c.all_fit-2.ensures, c.all_fit-3.ensures) (groups_cover c.args.word.now (length c.args.word.now - length c.args.word.now % 8) 8 (omega arith) (omega arith))

@@ -1,5 +1,5 @@
 -- `settle_match` meets its contract. Assumes nothing.
 use Rattle.rule_answers.proofs.matching.settle_match.Goals as goal
 
-pub returns-in-Refused : goal.returns-in-Refused
-returns-in-Refused c = rw c.in-Refused.is c.settle.ensures
+pub returns-in-Err : goal.returns-in-Err
+returns-in-Err c = rw c.in-Err.is c.settle.ensures

@@ -8,13 +8,13 @@ pub returns-in_default : goal.returns-in_default
 returns-in_default c = malformed_told (table_malformed c.read_table-read.ensures c.in_default.is)
 
 pub next_pair-found-requires : goal.next_pair-found-requires
-next_pair-found-requires c = (table_there c.read_table-read.ensures c.in-Rules.is, search rules)
+next_pair-found-requires c = search rules
 
 pub show_pair-requires : goal.show_pair-requires
-show_pair-requires c = let inside = pair_inside (table_there c.read_table-read.ensures c.in-Rules.is) _ _ _ c.next_pair-found.ensures c.in-Pair.is in (table_there c.read_table-read.ensures c.in-Rules.is, inside.0, inside.1)
+show_pair-requires c = let inside = pair_inside (table_there c.read_table-read.ensures c.in-Some.is) _ _ _ c.next_pair-found.ensures c.in-Some-found.is in (inside.0, inside.1)
 
-pub returns-in-Nothing : goal.returns-in-Nothing
-returns-in-Nothing c = none_further (table_there c.read_table-read.ensures c.in-Rules.is) _ _ _ c.next_pair-found.ensures c.in-Nothing.is
+pub returns-in-None : goal.returns-in-None
+returns-in-None c = none_further (table_there c.read_table-read.ensures c.in-Some.is) _ _ _ c.next_pair-found.ensures c.in-None.is
 
-pub returns-in-Pair : goal.returns-in-Pair
-returns-in-Pair c = pair_told (table_there c.read_table-read.ensures c.in-Rules.is) _ _ _ c.next_pair-found.ensures c.in-Pair.is c.show_pair.ensures
+pub returns-in-Some-found : goal.returns-in-Some-found
+returns-in-Some-found c = pair_told (table_there c.read_table-read.ensures c.in-Some.is) _ _ _ c.next_pair-found.ensures c.in-Some-found.is c.show_pair.ensures

@@ -10,7 +10,7 @@ pub bounds-table-at-then-byte-eq-WORD : goal.bounds-table-at-then-byte-eq-WORD
 bounds-table-at-then-byte-eq-WORD c = omega (arith, word_ends _ c.requires.stands c.if-byte-eq-WORD.true, c.requires.stands.inside)
 
 pub returns-then-byte-eq-WORD : goal.returns-then-byte-eq-WORD
-returns-then-byte-eq-WORD c = λ i next s. rw c.wide.ensures.value (word_ends _ s c.if-byte-eq-WORD.true)
+returns-then-byte-eq-WORD c = λ i next s. rw c.from.ensures (word_ends _ s c.if-byte-eq-WORD.true)
 
 pub returns-then-byte-eq-KIND : goal.returns-then-byte-eq-KIND
 returns-then-byte-eq-KIND c = λ i next s. kind_ends _ s c.if-byte-eq-KIND.true

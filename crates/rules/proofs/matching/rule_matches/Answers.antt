@@ -14,7 +14,7 @@ pub returns-then-nodes-at : goal.returns-then-nodes-at
 returns-then-nodes-at c = match_no_node _ _ _ _ _ _ _ _ c.loop-end.invariant (sym c.item_counts.ensures ∙ c.loop-end-test.true) c.if-nodes-at.true
 
 pub node_fits-requires : goal.node_fits-requires
-node_fits-requires c = (match_item _ _ _ _ _ _ _ _ c.loop-end.invariant (sym c.item_counts.ensures ∙ c.loop-end-test.true), omega arith, match_nodes _ _ _ _ _ _ _ _ c.loop-end.invariant, c.requires.2)
+node_fits-requires c = (match_item _ _ _ _ _ _ _ _ c.loop-end.invariant (sym c.item_counts.ensures ∙ c.loop-end-test.true), omega arith, match_nodes _ _ _ _ _ _ _ _ c.loop-end.invariant)
 
 pub returns-then-not-node_fits : goal.returns-then-not-node_fits
 returns-then-not-node_fits c = match_misfit _ _ _ _ _ _ _ _ c.loop-end.invariant (sym c.item_counts.ensures ∙ c.loop-end-test.true) (omega arith) c.node_fits.ensures c.if-not-node_fits.true

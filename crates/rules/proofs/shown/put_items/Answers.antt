@@ -10,8 +10,8 @@ loop-output-init c = put_begins _ c.requires
 pub item_counts-requires : goal.item_counts-requires
 item_counts-requires c = c.loop-output.invariant.inside
 
-pub put_item-at-requires : goal.put_item-at-requires
-put_item-at-requires c = put_room _ c.loop-output.invariant (sym c.item_counts.ensures ∙ c.loop-output-test.true)
+pub put_item-requires : goal.put_item-requires
+put_item-requires c = put_room _ c.loop-output.invariant (sym c.item_counts.ensures ∙ c.loop-output-test.true)
 
 pub item_end-x-requires : goal.item_end-x-requires
 item_end-x-requires c = put_some _ c.loop-output.invariant (sym c.item_counts.ensures ∙ c.loop-output-test.true)
@@ -20,10 +20,7 @@ pub loop-output-smaller : goal.loop-output-smaller
 loop-output-smaller c = let f = put_further _ c.loop-output.invariant (sym c.item_counts.ensures ∙ c.loop-output-test.true) c.item_end-x.ensures in omega (arith, f.0, f.1)
 
 pub loop-output-preserved : goal.loop-output-preserved
-loop-output-preserved c = put_again _ c.loop-output.invariant (sym c.item_counts.ensures ∙ c.loop-output-test.true) c.put_item-at.ensures c.item_end-x.ensures c.put_item-at.auto.output
-
-pub shape_of-output : goal.shape_of-output
-shape_of-output c = c.loop-output.invariant.kept
+loop-output-preserved c = put_again _ c.loop-output.invariant (sym c.item_counts.ensures ∙ c.loop-output-test.true) c.put_item.ensures c.item_end-x.ensures
 
 pub returns : goal.returns
 returns c = put_ends _ c.loop-output.invariant (sym c.item_counts.ensures ∙ c.loop-output-test.false)

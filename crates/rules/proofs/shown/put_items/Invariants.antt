@@ -4,7 +4,7 @@ use Rattle.rules.specs.Laws.Showing.{PutLoop}
 use Rattle.rules.proofs.shown.put_items.Given as goal
 
 abbrev pub invariant-loop-output : goal.invariant-loop-output
-invariant-loop-output l = PutLoop l.table l.initial.output l.begin l.end l.item l.output l.at l.x
+invariant-loop-output l = PutLoop l.table l.initial.output l.end l.item l.output l.x
 
 abbrev pub decreases-loop-output : goal.decreases-loop-output
 decreases-loop-output l = l.end - l.x

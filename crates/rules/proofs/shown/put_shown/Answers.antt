@@ -1,41 +1,15 @@
--- `put_shown` meets its contract. The loop's invariant: the items so far stand in the buffer. Assumes nothing.
-use native.Mathlib.Omega.{arith}
-use mathlib.Core.Path.{sym, ◌∙◌}
-use Rattle.rules.specs.Laws.Showing.{show_begins, show_first, show_second, show_room, show_again, show_further, show_first_room, show_second_room, show_ends}
+-- `put_shown` meets its contract. Assumes nothing.
+use Rattle.std.proofs.Common.{rules}
+use Rattle.text.specs.Laws.Appending.{puts_front}
 use Rattle.rules.proofs.shown.put_shown.Goals as goal
 
-pub loop-item-init : goal.loop-item-init
-loop-item-init c = show_begins _ _ _ _ _ _ c.requires.0 c.requires.1 c.requires.2
-
-pub both_count-requires : goal.both_count-requires
-both_count-requires c = (c.requires.0.stands.inside, c.requires.1.stands.inside)
-
-pub shown_item-item-requires : goal.shown_item-item-requires
-shown_item-item-requires c = show_first _ _ _ _ _ _ c.loop-item.invariant (sym c.both_count.ensures ∙ c.loop-item-test.true)
-
-pub put_item-at-requires : goal.put_item-at-requires
-put_item-at-requires c = show_room _ _ _ _ _ _ c.loop-item.invariant (sym c.both_count.ensures ∙ c.loop-item-test.true) c.shown_item-item.ensures
-
-pub item_end-x-requires : goal.item_end-x-requires
-item_end-x-requires c = show_first _ _ _ _ _ _ c.loop-item.invariant (sym c.both_count.ensures ∙ c.loop-item-test.true)
-
-pub item_end-y-requires : goal.item_end-y-requires
-item_end-y-requires c = show_second _ _ _ _ _ _ c.loop-item.invariant (sym c.both_count.ensures ∙ c.loop-item-test.true)
-
-pub loop-item-smaller : goal.loop-item-smaller
-loop-item-smaller c = let f = show_further _ _ _ _ _ _ c.loop-item.invariant (sym c.both_count.ensures ∙ c.loop-item-test.true) c.item_end-x.ensures in omega (arith, f.0, f.1)
-
-pub loop-item-preserved : goal.loop-item-preserved
-loop-item-preserved c = show_again _ _ _ _ _ _ c.loop-item.invariant (sym c.both_count.ensures ∙ c.loop-item-test.true) c.shown_item-item.ensures c.put_item-at.ensures c.item_end-x.ensures c.item_end-y.ensures c.put_item-at.auto.output
-
-pub put_items-last-requires : goal.put_items-last-requires
-put_items-last-requires c = show_first_room _ _ _ _ _ _ c.loop-item.invariant (sym c.both_count.ensures ∙ c.loop-item-test.false)
-
-pub put_items-requires : goal.put_items-requires
-put_items-requires c = show_second_room _ _ _ _ _ _ c.loop-item.invariant (sym c.both_count.ensures ∙ c.loop-item-test.false) c.put_items-last.ensures c.put_items-last.auto.output
-
-pub shape_of-output : goal.shape_of-output
-shape_of-output c = c.put_items.auto.output ∙ c.put_items-last.auto.output ∙ c.loop-item.invariant.kept
+pub put_both-requires : goal.put_both-requires
+put_both-requires c = let empty = c.new-items.ensures.begins in (c.requires.0, c.requires.1, rw (empty.0, empty.1) c.requires.2)
 
 pub returns : goal.returns
-returns c = show_ends _ _ _ _ _ _ c.loop-item.invariant (sym c.both_count.ensures ∙ c.loop-item-test.false) c.put_items-last.ensures c.put_items-last.auto.output c.put_items.ensures
+returns c = record {
+  says = λ p q s t.
+      let both = c.put_both.ensures.says p q s t in
+      let put = puts_front c.new-items.ensures.begins both in
+      search (rules, both, put);
+}

@@ -19,10 +19,10 @@ pub overflow_add-count : goal.overflow_add-count
 overflow_add-count c = omega (arith, c.loop-at.invariant.counted)
 
 pub loop-at-smaller : goal.loop-at-smaller
-loop-at-smaller c = let f = fill_further _ _ _ c.loop-at.invariant (omega arith) c.if-count-eq-MOST_ITEMS.false c.if-table-at-eq-REST.false c.item_at-found.ensures c.in-Item.is c.requires.1 in omega (arith, f.0, f.1)
+loop-at-smaller c = let f = fill_further _ _ _ c.loop-at.invariant (omega arith) c.if-count-eq-MOST_ITEMS.false c.if-table-at-eq-REST.false c.item_at-found.ensures c.in-Some.is c.requires.1 in omega (arith, f.0, f.1)
 
 pub loop-at-preserved : goal.loop-at-preserved
-loop-at-preserved c = fill_again _ _ _ c.loop-at.invariant (omega arith) c.if-count-eq-MOST_ITEMS.false c.if-table-at-eq-REST.false c.item_at-found.ensures c.in-Item.is c.requires.1
+loop-at-preserved c = fill_again _ _ _ c.loop-at.invariant (omega arith) c.if-count-eq-MOST_ITEMS.false c.if-table-at-eq-REST.false c.item_at-found.ensures c.in-Some.is c.requires.1
 
 pub returns : goal.returns
 returns c = fill_ends _ _ _ c.loop-at.invariant (omega arith)

@@ -21,10 +21,10 @@ pub returns-in_default : goal.returns-in_default
 returns-in_default c = record { told = table_malformed _ c.loop-at.invariant (omega arith) c.if-count-eq-MOST_RULES.false c.rule_at-rule.ensures c.in_default.is }
 
 pub loop-at-smaller : goal.loop-at-smaller
-loop-at-smaller c = let f = table_further _ c.loop-at.invariant (omega arith) c.if-count-eq-MOST_RULES.false c.rule_at-rule.ensures c.in-Rule.is in omega (arith, f.0, f.1)
+loop-at-smaller c = let f = table_further _ c.loop-at.invariant (omega arith) c.if-count-eq-MOST_RULES.false c.rule_at-rule.ensures c.in-Some.is in omega (arith, f.0, f.1)
 
 pub loop-at-preserved : goal.loop-at-preserved
-loop-at-preserved c = table_again _ c.loop-at.invariant (omega arith) c.if-count-eq-MOST_RULES.false c.rule_at-rule.ensures c.in-Rule.is
+loop-at-preserved c = table_again _ c.loop-at.invariant (omega arith) c.if-count-eq-MOST_RULES.false c.rule_at-rule.ensures c.in-Some.is
 
 pub shape_of-starts : goal.shape_of-starts
 shape_of-starts c = c.loop-at.invariant.kept ∙ length-set c.args.starts.now 0 0

@@ -1,5 +1,5 @@
 -- `length_by` meets its contract. Assumes nothing.
 use Rattle.type_list.proofs.part.length_by.Goals as goal
 
-pub returns-in-Refused : goal.returns-in-Refused
-returns-in-Refused c = rw c.in-Refused.is c.up_to_cut.ensures
+pub returns-in-Err : goal.returns-in-Err
+returns-in-Err c = rw c.in-Err.is c.up_to_cut.ensures

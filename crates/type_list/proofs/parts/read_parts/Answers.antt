@@ -12,19 +12,19 @@ pub take_part-step-requires : goal.take_part-step-requires
 take_part-step-requires c = (c.loop-taken.invariant.0.ready, omega arith)
 
 pub overflow_sub-result : goal.overflow_sub-result
-overflow_sub-result c = let (m, is, l, fits) = rw c.in-Refused.is at c.take_part-step.ensures.says in omega (arith, l, fits, c.loop-taken.invariant.0.ready.allowed)
+overflow_sub-result c = let (m, is, l, fits) = rw c.in-Err.is at c.take_part-step.ensures.says in omega (arith, l, fits, c.loop-taken.invariant.0.ready.allowed)
 
-pub shape_of-tree-in-Refused : goal.shape_of-tree-in-Refused
-shape_of-tree-in-Refused c = c.take_part-step.auto.tree ∙ c.loop-taken.invariant.1
+pub shape_of-tree-in-Err : goal.shape_of-tree-in-Err
+shape_of-tree-in-Err c = c.take_part-step.auto.tree ∙ c.loop-taken.invariant.1
 
-pub returns-in-Refused : goal.returns-in-Refused
-returns-in-Refused c = parts_refused c.args.head c.args.kinds.now c.args.words.now c.loop-taken.invariant.0 (omega arith) (rw c.in-Refused.is at c.take_part-step.ensures)
+pub returns-in-Err : goal.returns-in-Err
+returns-in-Err c = parts_refused c.args.head c.args.kinds.now c.args.words.now c.loop-taken.invariant.0 (omega arith) (rw c.in-Err.is at c.take_part-step.ensures)
 
 pub loop-taken-smaller : goal.loop-taken-smaller
-loop-taken-smaller c = let a = rw c.in-On.is at c.take_part-step.ensures.says in omega (arith, a.from)
+loop-taken-smaller c = let a = rw c.in-Ok.is at c.take_part-step.ensures.says in omega (arith, a.from)
 
 pub loop-taken-preserved : goal.loop-taken-preserved
-loop-taken-preserved c = (parts_again c.args.head c.args.kinds.now c.args.words.now c.loop-taken.invariant.0 (omega arith) (rw c.in-On.is at c.take_part-step.ensures), c.take_part-step.auto.tree ∙ c.loop-taken.invariant.1)
+loop-taken-preserved c = (parts_again c.args.head c.args.kinds.now c.args.words.now c.loop-taken.invariant.0 (omega arith) (rw c.in-Ok.is at c.take_part-step.ensures), c.take_part-step.auto.tree ∙ c.loop-taken.invariant.1)
 
 pub overflow_sub-result-2 : goal.overflow_sub-result-2
 overflow_sub-result-2 c = c.loop-taken.invariant.0.ready.allowed

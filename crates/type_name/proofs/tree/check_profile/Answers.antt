@@ -3,11 +3,8 @@ use mathlib.Core.Path.{sym, ap, ◌∙◌}
 use Rattle.type_name.specs.EntrySays.{profile_answer}
 use Rattle.type_name.proofs.tree.check_profile.Goals as goal
 
-pub validate_profile_features-lack-requires : goal.validate_profile_features-lack-requires
-validate_profile_features-lack-requires c = c.requires
+pub returns-in-None : goal.returns-in-None
+returns-in-None c = ap (profile_answer c.args.nodes c.args.steps) (sym c.in-None.is ∙ c.validate_profile_features-lack.ensures)
 
-pub returns-in-Nothing : goal.returns-in-Nothing
-returns-in-Nothing c = ap (profile_answer c.args.nodes c.args.steps) (sym c.in-Nothing.is ∙ c.validate_profile_features-lack.ensures)
-
-pub returns-in-Lacks : goal.returns-in-Lacks
-returns-in-Lacks c = ap (profile_answer c.args.nodes c.args.steps) (sym c.in-Lacks.is ∙ c.validate_profile_features-lack.ensures)
+pub returns-in-Some : goal.returns-in-Some
+returns-in-Some c = ap (profile_answer c.args.nodes c.args.steps) (sym c.in-Some.is ∙ c.validate_profile_features-lack.ensures)

@@ -1,17 +1,13 @@
 -- `too_often` meets its contract. Assumes nothing.
-use mathlib.Core.Path.{refl}
 use native.Mathlib.Omega.{arith}
-use Rattle.type_nodes.specs.Laws.Counts.{one_often, all_often}
+use Rattle.type_nodes.specs.Laws.Counts.{one_often, one_seldom, none_often}
 use Rattle.type_nodes.proofs.combination.too_often.Goals as goal
 
-pub loop-i-init : goal.loop-i-init
-loop-i-init c = (omega arith, refl)
+pub returns-then-most-times : goal.returns-then-most-times
+returns-then-most-times c = one_often c.args.words.now c.args.seen.now c.loop-word.word-index (omega arith) c.most.ensures c.times.ensures c.loop-word.invariant c.if-most-times.true
 
-pub times-requires : goal.times-requires
-times-requires c = c.requires _ (omega arith)
-
-pub loop-i-preserved : goal.loop-i-preserved
-loop-i-preserved c = (omega arith, one_often c.args.words.now c.args.seen.now c.loop-i.i (omega arith) c.loop-i.over c.most.ensures c.times.ensures c.loop-i.invariant.1)
+pub loop-word-preserved : goal.loop-word-preserved
+loop-word-preserved c = one_seldom c.args.words.now c.args.seen.now c.loop-word.word-index (omega arith) c.most.ensures c.times.ensures c.loop-word.invariant c.if-most-times.false
 
 pub returns : goal.returns
-returns c = all_often c.args.words.now c.args.seen.now c.loop-i.i (omega arith) c.loop-i.invariant.1
+returns c = none_often c.args.words.now c.args.seen.now c.loop-word.word-index (omega arith) c.loop-word.invariant

@@ -1,22 +1,7 @@
 -- `validate_c_builtin_combination` meets its contract. Assumes nothing.
-use mathlib.Core.Path.{refl}
 use Rattle.type_nodes.specs.Sets.{builtin_type_words, scalar_bases}
 use Rattle.type_nodes.specs.Combination.{builtin_words, validate_c_builtin_combination}
-use Rattle.type_nodes.specs.Laws.Bounds.{all_below}
-use Rattle.type_nodes.specs.Laws.Counts.{counted}
 use Rattle.type_nodes.proofs.combination.validate_c_builtin_combination.Goals as goal
-
-pub too_often-requires : goal.too_often-requires
-unfolding builtin_type_words all_below
-too_often-requires c = counted builtin_type_words refl
-
-pub how_many-requires : goal.how_many-requires
-unfolding scalar_bases all_below
-how_many-requires c = counted scalar_bases refl
-
-pub how_many-requires-2 : goal.how_many-requires-2
-unfolding builtin_type_words all_below
-how_many-requires-2 c = counted builtin_type_words refl
 
 pub returns : goal.returns
 unfolding validate_c_builtin_combination builtin_words builtin_type_words scalar_bases

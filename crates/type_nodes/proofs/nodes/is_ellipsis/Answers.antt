@@ -2,9 +2,6 @@
 use Rattle.type_nodes.specs.Laws.Commas.{inside_range, formed_next, no_dot_1, no_dot_2, no_dot_3, dots}
 use Rattle.type_nodes.proofs.nodes.is_ellipsis.Goals as goal
 
-pub shape_at-requires : goal.shape_at-requires
-shape_at-requires c = c.requires
-
 pub returns-then-shape_at-ne-DOT : goal.returns-then-shape_at-ne-DOT
 returns-then-shape_at-ne-DOT c = no_dot_1 c.shape_at.ensures c.if-shape_at-ne-DOT.true
 

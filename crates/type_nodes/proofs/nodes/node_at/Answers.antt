@@ -7,8 +7,5 @@ use Rattle.type_nodes.proofs.nodes.node_at.Goals as goal
 pub returns-then-at-to : goal.returns-then-at-to
 returns-then-at-to c = λ x s. nothing_left s (omega arith)
 
-pub node_token-token-requires : goal.node_token-token-requires
-node_token-token-requires c = omega (arith, c.requires.room, c.requires.few)
-
 pub returns : goal.returns
 returns c = λ x s. ((first s (omega arith)).full, c.shape_at-shape.ensures x s, c.node_token-token.ensures.value ∙ (first s (omega arith)).token, c.node_end-next.ensures x s)

@@ -1,20 +1,11 @@
 -- `shape_at` meets its contract. Assumes nothing.
 use mathlib.Core.Path.{sym, ◌∙◌}
 use native.Mathlib.Omega.{arith}
-use Rattle.type_nodes.specs.Laws.Siblings.{shape_none, read_known, read_token, read_group, read_small}
+use Rattle.type_nodes.specs.Laws.Siblings.{shape_none, read_token, read_group, read_small}
 use Rattle.type_nodes.proofs.nodes.shape_at.Goals as goal
 
 pub returns-then-at-to : goal.returns-then-at-to
 returns-then-at-to c = λ x s. sym (shape_none s (omega arith))
-
-pub node_kind-kind-requires : goal.node_kind-kind-requires
-node_kind-kind-requires c = omega (arith, c.requires.room, c.requires.few)
-
-pub node_token-token-requires : goal.node_token-token-requires
-node_token-token-requires c = omega (arith, c.requires.room, c.requires.few)
-
-pub bounds-kinds-token : goal.bounds-kinds-token
-bounds-kinds-token c = read_known c.requires.stands (omega arith) c.node_token-token.ensures.value
 
 pub returns-then-kind-eq-TOKEN_NODE : goal.returns-then-kind-eq-TOKEN_NODE
 returns-then-kind-eq-TOKEN_NODE c = λ x s. read_token s (omega arith) (sym c.node_kind-kind.ensures ∙ c.if-kind-eq-TOKEN_NODE.true) c.node_token-token.ensures.value

@@ -3,9 +3,6 @@ use borrow.Author.Tests.{ne_eqb}
 use Rattle.type_nodes.specs.Laws.SpecifierTables.{moved, at_identifier, at_scope, at_list, at_group}
 use Rattle.type_nodes.proofs.specifiers.specifier_node.Goals as goal
 
-pub specifier_word-requires : goal.specifier_word-requires
-specifier_word-requires c = c.requires.0
-
 pub returns-then-shape-eq-IDENTIFIER : goal.returns-then-shape-eq-IDENTIFIER
 returns-then-shape-eq-IDENTIFIER c = moved c.specifier_word.ensures (at_identifier _ _ _ _ _ _ _ c.if-shape-eq-IDENTIFIER.true)
 

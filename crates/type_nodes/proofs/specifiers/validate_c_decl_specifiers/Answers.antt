@@ -1,23 +1,17 @@
 -- `validate_c_decl_specifiers` meets its contract: what is left of the nodes decides. Assumes nothing.
 use native.Mathlib.Omega.{arith}
 use Rattle.type_nodes.specs.Laws.SpecifierLoop.{specifiers_start, specifiers_ready, ready_to_end, count_fits, specifiers_further, specifiers_fits, specifiers_ready_next}
-use Rattle.type_nodes.specs.Laws.SpecifierLoop.{specifiers_ended, not_ended, specifiers_more, specifiers_name, specifiers_scope, specifiers_stop, specifiers_on, specifiers_count, counted_known}
+use Rattle.type_nodes.specs.Laws.SpecifierLoop.{specifiers_ended, specifiers_more, specifiers_name, specifiers_scope, specifiers_stop, specifiers_on, specifiers_count}
 use Rattle.type_nodes.proofs.specifiers.validate_c_decl_specifiers.Goals as goal
 
 pub loop-seen-init : goal.loop-seen-init
 loop-seen-init c = specifiers_start _ c.requires
-
-pub shape_at-shape-requires : goal.shape_at-shape-requires
-shape_at-shape-requires c = (specifiers_ready c.loop-seen.invariant).nodes_stand
 
 pub specifiers_end-requires : goal.specifiers_end-requires
 specifiers_end-requires c = ready_to_end c.loop-seen.invariant
 
 pub returns-then-ends_specifiers : goal.returns-then-ends_specifiers
 returns-then-ends_specifiers c = specifiers_ended c.loop-seen.invariant c.shape_at-shape.ensures c.ends_specifiers.ensures c.if-ends_specifiers.true c.specifiers_end.ensures
-
-pub exact_word-word-requires : goal.exact_word-word-requires
-exact_word-word-requires c = specifiers_ready c.loop-seen.invariant
 
 pub node_end-next-requires : goal.node_end-next-requires
 node_end-next-requires c = ((specifiers_more c.loop-seen.invariant c.shape_at-shape.ensures c.ends_specifiers.ensures c.if-ends_specifiers.false), (specifiers_ready c.loop-seen.invariant).nodes_stand)
@@ -40,23 +34,11 @@ shape_at-right-requires c = (specifiers_ready_next c.loop-seen.invariant (specif
 pub exact_word-second-requires : goal.exact_word-second-requires
 exact_word-second-requires c = specifiers_ready_next c.loop-seen.invariant (specifiers_more c.loop-seen.invariant c.shape_at-shape.ensures c.ends_specifiers.ensures c.if-ends_specifiers.false) c.shape_at-shape.ensures c.node_end-next.ensures
 
-pub specifier_node-step-requires : goal.specifier_node-step-requires
-specifier_node-step-requires c = (c.loop-seen.invariant.kept, not_ended c.loop-seen.invariant c.shape_at-shape.ensures c.ends_specifiers.ensures c.if-ends_specifiers.false)
-
 pub returns-in-Stop : goal.returns-in-Stop
 returns-in-Stop c = specifiers_stop c.loop-seen.invariant (specifiers_more c.loop-seen.invariant c.shape_at-shape.ensures c.ends_specifiers.ensures c.if-ends_specifiers.false) c.shape_at-shape.ensures c.node_end-next.ensures c.exact_word-word.ensures c.shape_at-right.ensures c.exact_word-second.ensures c.specifier_node-step.ensures c.in-Stop.is
 
-pub offset_bounds-seen-i : goal.offset_bounds-seen-i
-offset_bounds-seen-i c = let u = counted_known c.specifier_node-step.ensures c.in-Count.is in omega arith
-
-pub bounds-seen-i : goal.bounds-seen-i
-bounds-seen-i c = counted_known c.specifier_node-step.ensures c.in-Count.is
-
 pub overflow_add-seen : goal.overflow_add-seen
 overflow_add-seen c = omega (arith, count_fits c.loop-seen.invariant c.in-Count.counted (specifiers_more c.loop-seen.invariant c.shape_at-shape.ensures c.ends_specifiers.ensures c.if-ends_specifiers.false))
-
-pub bounds-seen-i-in-Count : goal.bounds-seen-i-in-Count
-bounds-seen-i-in-Count c = counted_known c.specifier_node-step.ensures c.in-Count.is
 
 pub loop-seen-smaller-in-On : goal.loop-seen-smaller-in-On
 loop-seen-smaller-in-On c = omega (arith, specifiers_further c.loop-seen.invariant (specifiers_more c.loop-seen.invariant c.shape_at-shape.ensures c.ends_specifiers.ensures c.if-ends_specifiers.false) c.shape_at-shape.ensures c.node_end-next.ensures, specifiers_fits c.loop-seen.invariant (specifiers_more c.loop-seen.invariant c.shape_at-shape.ensures c.ends_specifiers.ensures c.if-ends_specifiers.false) c.shape_at-shape.ensures c.node_end-next.ensures)
