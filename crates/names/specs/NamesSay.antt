@@ -77,6 +77,11 @@ pub record SomeChain (file links places : List ℕ) (first : ℕ) (word : List �
 pub record LooksInChain (file links places : List ℕ) (first : ℕ) (word : List ℕ) (r : Bool) : Type 0 where
   pub says : (ns : List (List ℕ)) → Linked file ns links places → Newest ns (bucket_of word) (length ns) first → r ≡ is_name ns word
 
+-- What `is_name` and `mark_names` require of the arrays of a table: that it is the table of some names.
+pub record TableThere (file heads links places : List ℕ) : Type 0 where
+  pub names : List (List ℕ)
+  pub table : Table file names heads links places
+
 -- What `is_name` says of the names of the table.
 pub record Looks (file heads links places word : List ℕ) (r : Bool) : Type 0 where
   pub says : (ns : List (List ℕ)) → Table file ns heads links places → r ≡ is_name ns word

@@ -1,6 +1,6 @@
 // The name list: document 02, C-17.
 
-ghost use Rattle.std.specs.Prelude.{◌≡◌};
+ghost use Rattle.std.specs.Prelude.{◌≡◌, length};
 ghost use Rattle.names.specs.NamesSay.{ReadsNames};
 
 use crate::table::{MOST_NAMES, NameTable};
@@ -14,6 +14,8 @@ impl NameTable<'_> {
         requires { self.old.count ≡ 0 }
         ensures told { ReadsNames self.old.names.now result self.new.count self.new.heads.now self.new.links.now self.new.places.now }
         ensures kept { self.new.names ≡ self.old.names }
+        ensures same_arrays { (self.new.heads.ghost_name ≡ self.old.heads.ghost_name) × (self.new.links.ghost_name ≡ self.old.links.ghost_name) × (self.new.places.ghost_name ≡ self.old.places.ghost_name) }
+        ensures as_long { (length self.new.heads.now ≡ length self.old.heads.now) × (length self.new.links.now ≡ length self.old.links.now) × (length self.new.places.now ≡ length self.old.places.now) }
     {
         let names = self.names;
         let mut at = 0;

@@ -6,7 +6,7 @@ use Rattle.std.proofs.lemmas.List.{length-replicate, get_or-replicate, get_or_at
 use Rattle.std.proofs.Math.ListN.{get_or-append}
 use Rattle.rows.specs.Words.{same_exactly}
 use Rattle.names.specs.NameList.{most_names}
-use Rattle.names.specs.NamesSay.{buckets, bucket_of, name, word_of, SomeRecord, Newest, Linked, Table, Clear, SomeChain, LooksInChain, SomeTable, Looks, Adds}
+use Rattle.names.specs.NamesSay.{buckets, bucket_of, name, word_of, SomeRecord, Newest, Linked, Table, Clear, SomeChain, LooksInChain, SomeTable, TableThere, Looks, Adds}
 use Rattle.names.specs.Laws.Same.{otherwise, same_equal}
 use Rattle.names.specs.Laws.Names.{name_there, name_nowhere}
 
@@ -40,6 +40,10 @@ empty_table {file} {heads} {links} {places} s e = by s.names (s.counted ∙ e) s
     by : (ns : List (List ℕ)) → length ns ≡ 0 → Table file ns heads links places → Table file [] heads links places
     by [] q t = t
     by (n ∷ ns) q t = absurd (omega (arith, q))
+
+-- The table of so many names is that of some.
+pub table_there : {file heads links places : List ℕ} {count : ℕ} → SomeTable file count heads links places → TableThere file heads links places
+table_there s = record { names = s.names; table = s.table }
 
 -- ---- one name more
 
@@ -253,7 +257,7 @@ module _ {file heads links places : List ℕ} (word : List ℕ) {bucket first : 
   chain_newest : {ns : List (List ℕ)} → Table file ns heads links places → Newest ns (bucket_of word) (length ns) first
   chain_newest t = rw (is_first, ← is_bucket) (t.headed bucket small)
 
-  pub some_chain : {count : ℕ} → SomeTable file count heads links places → SomeChain file links places first word
+  pub some_chain : TableThere file heads links places → SomeChain file links places first word
   some_chain s = record { names = s.names; linked = s.table.linked; newest = chain_newest s.table }
 
   pub looks : {r : Bool} → LooksInChain file links places first word r → Looks file heads links places word r

@@ -1,9 +1,6 @@
--- `is_name` meets its contract. Assumes nothing.
-use Rattle.names.specs.Laws.Tables.{some_chain, looks}
+-- `is_name` of a table meets its contract. Assumes nothing.
+use Rattle.names.specs.Laws.Tables.{table_there}
 use Rattle.names.proofs.table.NameTable.is_name.Goals as goal
 
-pub in_chain-requires : goal.in_chain-requires
-in_chain-requires c = some_chain _ c.bucket_of-bucket.ensures.value c.bucket_of-bucket.ensures.small c.from-first.ensures c.args.self.now.held
-
-pub returns : goal.returns
-returns c = looks _ c.bucket_of-bucket.ensures.value c.bucket_of-bucket.ensures.small c.from-first.ensures c.in_chain.ensures
+pub is_name-requires : goal.is_name-requires
+is_name-requires c = table_there c.args.self.now.held

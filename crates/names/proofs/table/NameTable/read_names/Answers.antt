@@ -5,7 +5,7 @@ use Rattle.names.specs.Laws.ReadLoop.{names_begin, record_there, names_full, nam
 use Rattle.names.proofs.table.NameTable.read_names.Goals as goal
 
 pub loop-at-init : goal.loop-at-init
-loop-at-init c = (names_begin _ c.args.self.now.held c.requires, refl)
+loop-at-init c = (names_begin _ c.args.self.now.held c.requires, refl, (refl, refl, refl), (refl, refl, refl))
 
 pub returns-then-self-eq-MOST_NAMES-clause-told : goal.returns-then-self-eq-MOST_NAMES-clause-told
 returns-then-self-eq-MOST_NAMES-clause-told c = record { told = names_full _ c.loop-at.invariant.0 (omega arith) c.if-self-eq-MOST_NAMES.true }
@@ -29,7 +29,12 @@ pub loop-at-smaller : goal.loop-at-smaller
 loop-at-smaller c = let f = names_further _ c.loop-at.invariant.0 (omega arith) c.if-self-eq-MOST_NAMES.false (sym (rw c.current.ensures at c.token_at-found.ensures) ∙ c.in-Some.is) in omega (arith, f.0, f.1)
 
 pub loop-at-preserved : goal.loop-at-preserved
-loop-at-preserved c = (rw (c.add_name.ensures.counted, c.if-not-add_name.false) (names_again _ c.loop-at.invariant.0 (omega arith) c.if-self-eq-MOST_NAMES.false (sym (rw c.current.ensures at c.token_at-found.ensures) ∙ c.in-Some.is) c.if-kind-ne-IDENTIFIER.false c.if-not-add_name.false (rw c.loop-at.invariant.1 at c.add_name.ensures.added)), c.add_name.ensures.kept ∙ c.loop-at.invariant.1)
+loop-at-preserved c = (
+  rw (c.add_name.ensures.counted, c.if-not-add_name.false) (names_again _ c.loop-at.invariant.0 (omega arith) c.if-self-eq-MOST_NAMES.false (sym (rw c.current.ensures at c.token_at-found.ensures) ∙ c.in-Some.is) c.if-kind-ne-IDENTIFIER.false c.if-not-add_name.false (rw c.loop-at.invariant.1 at c.add_name.ensures.added)),
+  c.add_name.ensures.kept ∙ c.loop-at.invariant.1,
+  (c.add_name.ensures.same_arrays.0 ∙ c.loop-at.invariant.2.0, c.add_name.ensures.same_arrays.1 ∙ c.loop-at.invariant.2.1, c.add_name.ensures.same_arrays.2 ∙ c.loop-at.invariant.2.2),
+  (c.add_name.ensures.as_long.0 ∙ c.loop-at.invariant.3.0, c.add_name.ensures.as_long.1 ∙ c.loop-at.invariant.3.1, c.add_name.ensures.as_long.2 ∙ c.loop-at.invariant.3.2),
+)
 
 pub returns-clause-told : goal.returns-clause-told
 returns-clause-told c = names_told _ c.loop-at.invariant.0 (omega arith)

@@ -1,9 +1,9 @@
 -- `in_chain` meets its contract. The loop's invariant: no name from this number on is the word. Assumes nothing.
 use Rattle.names.specs.Laws.Tables.{ChainLoop}
-use Rattle.names.proofs.table.NameTable.in_chain.Given as goal
+use Rattle.names.proofs.table.in_chain.Given as goal
 
 abbrev pub invariant-loop-entry : goal.invariant-loop-entry
-invariant-loop-entry l = ChainLoop l.self.names.now l.self.links.now l.self.places.now l.sought l.first l.entry
+invariant-loop-entry l = ChainLoop l.names l.links l.places l.sought l.first l.entry
 
 abbrev pub decreases-loop-entry : goal.decreases-loop-entry
 decreases-loop-entry l = l.entry
