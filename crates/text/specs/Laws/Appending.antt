@@ -1,7 +1,7 @@
 -- How pieces of text come one behind the other.
 -- Assumes nothing.
 use Rattle.std.specs.Prelude.{ℕ, zero, suc, ◌+◌, ◌-◌, ◌/◌, ◌≤◌, ◌<◌, ◌≡◌, refl, Bool, true, false, List, [], ◌∷◌, ◌++◌, length, take, drop, get_or, set, ltb, if◌then◌else◌}
-use Rattle.std.proofs.Common.{sym, ap, subst, ◌∙◌, append_assoc, append-nil, arith, add-one, sub-one, length-append, take-append-drop, take-suc, length-take-le, take-suc-set, drop-drop, drop-set-lt, lt-ltb, le-ltb}
+use Rattle.std.proofs.Common.{sym, ap, subst, ◌∙◌, append_assoc, append-nil, arith, add-one, sub-one, add-zero, add-suc, length-append, length-set, take-append-drop, take-suc, take-suc-set, drop-drop, drop-set-lt, lt-ltb, le-ltb}
 use Rattle.std.proofs.Math.Seq.{take-length}
 use Rattle.text.specs.declared.Text.{Text}
 use Rattle.text.specs.Text.{Appended, base, most_digits, longest_ended, decimal, last_digit, last_digits, ended}
@@ -48,25 +48,28 @@ appended_byte xs at byte less = record {
 pub appended_whole : {xs ys : List ℕ} {a b : ℕ} {p : List ℕ} → Appended xs a p b ys → ys ≡ take a xs ++ p ++ drop b xs
 appended_whole {xs} {ys} {a} {b} {p} h = rw (← h.says, ← h.behind) (sym (take-append-drop b ys))
 
--- The loop that copies bytes: the first i of them are put.
-pub record Copying (entry : Text) (bytes : List ℕ) (text : Text) (i : ℕ) : Type 0 where
+-- The loop that copies bytes: the first i of them are added.
+pub record Copying (entry : List ℕ) (at : ℕ) (bytes text : List ℕ) (i : ℕ) : Type 0 where
   pub within : i ≤ length bytes
-  pub so_far : Puts entry (take i bytes) text
+  pub long : length text ≡ length entry
+  pub so_far : Appended entry at (take i bytes) (at + i) text
 
-module _ {entry : Text} {bytes : List ℕ} where
-  pub copying_start : Copying entry bytes entry 0
-  copying_start = record { within = omega arith; so_far = puts_none entry }
+pub copying_start : (xs : List ℕ) (at : ℕ) (bytes : List ℕ) → Copying xs at bytes xs 0
+copying_start xs at bytes = record { within = omega arith; long = refl; so_far = rw add-zero (appended_none xs at) }
 
-  pub copying_room : {text : Text} {i : ℕ} → Copying entry bytes text i → i < length bytes → entry.end + length bytes ≤ length entry.bytes.now → text.end < length text.bytes.now
-  copying_room {text} {i} c less room = omega (arith, less, room, c.so_far.appended.counts, c.so_far.as_long, length-take-le i bytes c.within)
+pub copying_on : {xs bytes ys : List ℕ} {at i : ℕ} → Copying xs at bytes ys i → at + length bytes ≤ length xs → i < length bytes → Copying xs at bytes (set ys (at + i) (get_or bytes i 0)) (i + 1)
+copying_on {xs} {bytes} {ys} {at} {i} c room less =
+    let next = appended_then c.so_far (appended_byte ys (at + i) (get_or bytes i 0) (omega (arith, c.long))) in
+    record {
+      within = omega arith;
+      long = length-set ys (at + i) (get_or bytes i 0) ∙ c.long;
+      so_far = rw (add-one i, take-suc bytes i 0 less, add-suc at i, ← add-one (at + i)) next;
+    }
 
-  pub copying_on : {text next : Text} {i : ℕ} → Copying entry bytes text i → i < length bytes → Puts text (get_or bytes i 0 ∷ []) next → Copying entry bytes next (i + 1)
-  copying_on {text} {next} {i} c less byte = record { within = omega arith; so_far = rw (add-one i, take-suc bytes i 0 less) (puts_then c.so_far byte) }
-
-  pub copying_end : {text : Text} {i : ℕ} → Copying entry bytes text i → length bytes ≤ i → Puts entry bytes text
-  copying_end {text} {i} c past =
-      let whole : i ≡ length bytes = omega (arith, c.within, past) in
-      puts_as (ap (λ (n : ℕ). take n bytes) whole ∙ take-length bytes) c.so_far
+pub copying_end : {xs bytes ys : List ℕ} {at i : ℕ} → Copying xs at bytes ys i → length bytes ≤ i → Appended xs at bytes (at + i) ys
+copying_end {xs} {bytes} {ys} {at} {i} c past =
+    let whole : i ≡ length bytes = omega (arith, c.within, past) in
+    subst (λ (l : List ℕ). Appended xs at l (at + i) ys) (ap (λ (n : ℕ). take n bytes) whole ∙ take-length bytes) c.so_far
 
 -- ---- decimal digits
 
